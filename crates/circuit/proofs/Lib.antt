@@ -1,0 +1,3 @@
+pub mod Dots
+pub mod RowSums
+pub mod Form

@@ -1,0 +1,2 @@
+pub mod Bulletproofs
+pub mod Verdict

@@ -1,0 +1,1 @@
+// The verdict on columns, and the columns of a prover.

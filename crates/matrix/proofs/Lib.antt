@@ -1,0 +1,6 @@
+pub mod Order
+pub mod Changed
+mod Placed
+mod Shift
+mod Outcomes
+pub mod RowSums
