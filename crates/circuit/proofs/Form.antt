@@ -1,20 +1,22 @@
--- The rows of a matrix vanish on columns exactly when the paper's linear constraints hold of them.
-use mathlib.Core.Path.{_≡_, refl, sym, ap, _∙_}
-use mathlib.Core.Bool.{true}
+-- The verdict is yes exactly when the paper's constraint system holds.
+use mathlib.Core.Path.{_≡_, refl, sym, ap, subst, _∙_}
+use mathlib.Core.Bool.{Bool, true}
 use mathlib.Core.List.{List, [], _∷_, _++_, map}
 use mathlib.Core.Logic.{inl, inr}
-use Prim.Native.Nat.{ℕ, _+_, _*_, _≤_}
+use Prim.Native.Nat.{ℕ, zero, suc, _+_, _*_, _≤_}
 use native.Mathlib.Omega.{arith}
 use lib.ListN.{length, getD}
 use Rattle.std.specs.Iters.{counting}
 use Rattle.std.proofs.shelf.Counted.{getD-map-counting}
+use Rattle.std.specs.Orderings.{Decides}
 use Rattle.std.proofs.shelf.Tests.{cases-lt}
+use Rattle.std.proofs.shelf.Ways.{decides-like}
 use Rattle.ring.specs.Algebra.{Ring-on}
 use Rattle.ring.proofs.Laws.{minus-plus, minus-plus-distributes, nought-sum-moves}
 use Rattle.matrix.specs.Cells.{in-order, covers, weight-at, row-sum}
 use Rattle.matrix.specs.Matrix.{Matrix}
-use Rattle.circuit.specs.Bulletproofs.{dot, apply, sum, Linear}
-use Rattle.circuit.specs.Verdict.{columns, Rows-vanish, system-of}
+use Rattle.circuit.specs.Bulletproofs.{dot, apply, sum, hadamard, Linear, Holds}
+use Rattle.circuit.specs.Verdict.{columns, Rows-vanish, Satisfied, system-of}
 use Rattle.circuit.proofs.Dots.{dot-minus, dot-append}
 use Rattle.circuit.proofs.RowSums.{row-sum-dot, row-sum-past}
 
@@ -124,10 +126,52 @@ module _ {M : Type 0} (R : Ring-on M) where
           | inr le ↦ row-sum-past R (m .height) (m .width) q (columns R v l r o) (m .cells) cover le
         ]
 
-pub agree : {M : Type 0} (R : Ring-on M) (m : Matrix M) (c n : ℕ) (v l r o : List M)
-    → in-order (m .cells) ≡ true → covers (m .height) (m .width) (m .cells) ≡ true → m .width ≤ 1 + c + 3 * n
-    → length v ≡ c → length l ≡ n → length r ≡ n → length o ≡ n
-    → (Rows-vanish R m (columns R v l r o) → Linear R (system-of R m c n) v l r o)
-    × (Linear R (system-of R m c n) v l r o → Rows-vanish R m (columns R v l r o))
-agree R m c n v l r o order cover fits v-size l-size r-size _ =
-    (forth R m c n v l r o order cover fits v-size l-size r-size, back R m c n v l r o order cover fits v-size l-size r-size)
+length-hadamard : {M : Type 0} (R : Ring-on M) (n : ℕ) (l r : List M) → length l ≡ n → length r ≡ n → length (hadamard R l r) ≡ n
+length-hadamard R n [] r p q = p
+length-hadamard R n (x ∷ l) [] p q = absurd (omega arith)
+length-hadamard R zero (x ∷ l) (y ∷ r) p q = absurd (omega arith)
+length-hadamard R (suc n) (x ∷ l) (y ∷ r) p q = ap suc (length-hadamard R n l r (omega arith) (omega arith))
+
+-- the verdict, with the out that is held, and the paper's constraint system say the same
+module _ {M : Type 0} (R : Ring-on M) (m : Matrix M) (c n : ℕ) (v l r o : List M)
+    (order : in-order (m .cells) ≡ true) (cover : covers (m .height) (m .width) (m .cells) ≡ true) where
+  abbrev Verdict : Type 0
+  Verdict = Satisfied R m c n v l r × (hadamard R l r ≡ o)
+
+  abbrev Paper : Type 0
+  Paper = (m .width ≤ 1 + c + 3 * n) × Holds R (system-of R m c n) v l r o
+
+  pub verdict-paper : Verdict → Paper
+  verdict-paper (s, gates) =
+      let rows = subst (λ (t : List M). Rows-vanish R m (columns R v l r t)) gates (s .rows) in (
+        s .fits,
+        record {
+          v-size = s .v-size;
+          left-size = s .left-size;
+          right-size = s .right-size;
+          out-size = subst (λ (t : List M). length t ≡ n) gates (length-hadamard R n l r (s .left-size) (s .right-size));
+          linear = forth R m c n v l r o order cover (s .fits) (s .v-size) (s .left-size) (s .right-size) rows;
+          gates = gates;
+        },
+      )
+
+  pub paper-verdict : Paper → Verdict
+  paper-verdict (fits, h) =
+      let rows = back R m c n v l r o order cover fits (h .v-size) (h .left-size) (h .right-size) (h .linear) in (
+        record {
+          v-size = h .v-size;
+          left-size = h .left-size;
+          right-size = h .right-size;
+          fits = fits;
+          rows = subst (λ (t : List M). Rows-vanish R m (columns R v l r t)) (sym (h .gates)) rows;
+        },
+        h .gates,
+      )
+
+  pub decides-paper : (b : Bool) → Decides b Verdict → Decides b Paper
+  decides-paper b says = decides-like b verdict-paper paper-verdict says
+
+-- the same of the verdict alone, whose out is left times right
+pub decides-filled : {M : Type 0} (R : Ring-on M) (m : Matrix M) (c n : ℕ) (v l r : List M) → in-order (m .cells) ≡ true → covers (m .height) (m .width) (m .cells) ≡ true → (b : Bool) → Decides b (Satisfied R m c n v l r) → Decides b ((m .width ≤ 1 + c + 3 * n) × Holds R (system-of R m c n) v l r (hadamard R l r))
+decides-filled R m c n v l r order cover b says =
+    decides-paper R m c n v l r (hadamard R l r) order cover b (λ y. (says .0 y, refl), λ s. says .1 (s .0))

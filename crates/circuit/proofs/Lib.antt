@@ -1,3 +1,5 @@
-pub mod Dots
-pub mod RowSums
+mod Dots
+mod RowSums
+mod Filled
+mod Running
 pub mod Form

@@ -13,17 +13,21 @@ use Rattle.circuit.specs.Bulletproofs.{System, hadamard}
 abbrev pub columns : {M : Type 0} → Ring-on M → List M → List M → List M → List M → List M
 columns R v l r o = R .unit ∷ (v ++ (l ++ (r ++ o)))
 
+-- out k is left k times right k
+abbrev pub filled : {M : Type 0} → Ring-on M → List M → List M → List M → List M
+filled R v l r = columns R v l r (hadamard R l r)
+
 -- every row's sum of weight times column is zero
 abbrev pub Rows-vanish : {M : Type 0} → Ring-on M → Matrix M → List M → Type 0
 Rows-vanish R m xs = (i : ℕ) → row-sum R xs i (m .cells) ≡ R .nought
 
--- with c committed values and n gates, out k being left k times right k
+-- with c committed values and n gates
 pub record Satisfied {M : Type 0} (R : Ring-on M) (m : Matrix M) (c n : ℕ) (v l r : List M) : Type 0 where
   pub v-size : length v ≡ c
   pub left-size : length l ≡ n
   pub right-size : length r ≡ n
   pub fits : m .width ≤ 1 + c + 3 * n
-  pub rows : Rows-vanish R m (columns R v l r (hadamard R l r))
+  pub rows : Rows-vanish R m (filled R v l r)
 
 -- the weights in n columns of every row, from the column `from` on
 abbrev pub block : {M : Type 0} → Ring-on M → Matrix M → ℕ → ℕ → List (List M)

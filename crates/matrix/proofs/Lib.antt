@@ -1,3 +1,4 @@
+pub mod Held
 pub mod Order
 pub mod Changed
 mod Placed

@@ -1,7 +1,7 @@
 use mathlib.Core.Path.{_≡_, sym, ap, _∙_}
-use lib.ListN.{take}
 use Rattle.matrix.specs.Table.{matrix, room}
-use Rattle.matrix.proofs.Order.{order-holds, order-meant}
+use Rattle.matrix.proofs.Held.{ordered-cells}
+use Rattle.matrix.proofs.Order.{order-holds}
 use Rattle.matrix.proofs.Outcomes.{touched-as, weights-of, sums-of}
 use Rattle.matrix.proofs.SparseMatrix.add.Needs as need
 
@@ -11,7 +11,7 @@ returns g c =
     let a = c .args in
     let m = a .self .now in
     let f = λ (u : r .Member). r .algebra .plus u (r .means (a .weight)) in
-    let order = order-holds _ (order-meant (r .means) (take (m .count) (m .cells .now)) ∙ m .ordered) in
+    let order = order-holds _ (ordered-cells (r .means) m) in
     let sum = c .add-sum .ensures ∙ ap f (c .weight .ensures) in
     let is = c .put .ensures .answer ∙ touched-as (r .algebra) (room m) (a .row) (a .column) f (r .means (c .add-sum .result)) (matrix (r .means) m) order sum in
     record {

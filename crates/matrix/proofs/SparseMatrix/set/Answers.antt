@@ -1,7 +1,7 @@
 use mathlib.Core.Path.{_≡_, _∙_}
-use lib.ListN.{take}
 use Rattle.matrix.specs.Table.{matrix, room}
-use Rattle.matrix.proofs.Order.{order-holds, order-meant}
+use Rattle.matrix.proofs.Held.{ordered-cells}
+use Rattle.matrix.proofs.Order.{order-holds}
 use Rattle.matrix.proofs.Outcomes.{weights-of}
 use Rattle.matrix.proofs.SparseMatrix.set.Needs as need
 
@@ -10,7 +10,7 @@ returns g c =
     let r = g .E·Ring in
     let a = c .args in
     let m = a .self .now in
-    let order = order-holds _ (order-meant (r .means) (take (m .count) (m .cells .now)) ∙ m .ordered) in
+    let order = order-holds _ (ordered-cells (r .means) m) in
     record {
       answer = c .put .ensures .answer;
       weights = weights-of (r .algebra) (room m) (a .row) (a .column) (λ _. r .means (a .weight)) (matrix (r .means) m) (c .put .result) (matrix (r .means) (c .put .last .self)) order (c .put .ensures .answer);
