@@ -15,10 +15,11 @@ use Rattle.ring.specs.Algebra.{Ring-on}
 use Rattle.ring.proofs.Laws.{minus-plus, minus-plus-distributes, nought-sum-moves}
 use Rattle.matrix.specs.Cells.{in-order, covers, weight-at, row-sum}
 use Rattle.matrix.specs.Matrix.{Matrix}
+use Rattle.matrix.proofs.Order.{order-holds}
 use Rattle.circuit.specs.Bulletproofs.{dot, apply, sum, hadamard, Linear, Holds}
 use Rattle.circuit.specs.Verdict.{columns, Rows-vanish, Satisfied, system-of}
 use Rattle.circuit.proofs.Dots.{dot-minus, dot-append}
-use Rattle.circuit.proofs.RowSums.{row-sum-dot, row-sum-past}
+use Rattle.circuit.proofs.DenseRows.{row-sum-dot, row-sum-past}
 
 map-same : {A B : Type 0} (f g : A → B) (xs : List A) → ((x : A) → f x ≡ g x) → map f xs ≡ map g xs
 map-same f g [] e = refl
@@ -89,7 +90,7 @@ module _ {M : Type 0} (R : Ring-on M) where
         → row-sum R (columns R v l r o) q (m .cells)
         ≡ R .plus (at q 0) (R .plus (dots q 1 c v) (R .plus (dots q (1 + c) n l) (R .plus (dots q (1 + c + n) n r) (dots q (1 + c + n + n) n o))))
     row-parts q =
-        let whole = row-sum-dot R (m .height) (m .width) (1 + c + 3 * n) q (columns R v l r o) (m .cells) order cover fits in
+        let whole = row-sum-dot R (m .height) (m .width) (1 + c + 3 * n) q (columns R v l r o) (m .cells) (order-holds (m .cells) order) cover fits in
         let p1 = dot-append R (at q) 0 1 1 (c + 3 * n) (1 + c + 3 * n) (R .unit ∷ []) (v ++ (l ++ (r ++ o))) refl (omega arith) refl in
         let p2 = dot-append R (at q) 1 (1 + c) c (3 * n) (c + 3 * n) v (l ++ (r ++ o)) v-size refl refl in
         let p3 = dot-append R (at q) (1 + c) (1 + c + n) n (n + n) (3 * n) l (r ++ o) l-size (omega arith) refl in

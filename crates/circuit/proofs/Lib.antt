@@ -1,5 +1,5 @@
 mod Dots
-mod RowSums
+mod DenseRows
 mod Filled
 mod Running
 pub mod Form

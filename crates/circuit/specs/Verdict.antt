@@ -42,5 +42,5 @@ system-of R m c n = record {
   W-R = block R m (1 + c + n) n;
   W-O = block R m (1 + c + n + n) n;
   W-V = map (map (R .minus)) (block R m 1 c);
-  c = map (λ q. R .minus (weight-at R q 0 (m .cells))) (counting 0 (m .height))
+  c = map (λ q. R .minus (weight-at R q 0 (m .cells))) (counting 0 (m .height));
 }

@@ -9,9 +9,9 @@ ghost use Rattle.refusal.specs.Number.{number-of};
 ghost use Rattle.matrix.specs.Table.{matrix};
 ghost use Rattle.circuit.specs.Bulletproofs.{Holds, hadamard};
 ghost use Rattle.circuit.specs.Verdict.{Satisfied, system-of};
-use super::rows::products_hold;
 use super::Circuit;
 use super::Witness;
+use super::rows::products_hold;
 use matrix::SparseMatrix;
 use refusal::Refusal;
 use ring::Ring;
@@ -45,11 +45,18 @@ impl<'a, E: Ring> Witness<'a, E> {
     }
 
     // Whether the columns satisfy the rows, and each out is its left times its right.
-    pub fn is_satisfied(&self, weights: &SparseMatrix<'_, E>, committed: usize, gates: usize) -> bool
+    pub fn is_satisfied(
+        &self,
+        weights: &SparseMatrix<'_, E>,
+        committed: usize,
+        gates: usize,
+    ) -> bool
         ensures verdict { λ r. ⌜ Decides r (Satisfied algebra (matrix means (now (weights .entry))) committed gates (map means (now (now (self .entry) .values))) (map means (now (now (self .entry) .left))) (map means (now (now (self .entry) .right))) × (hadamard algebra (map means (now (now (self .entry) .left))) (map means (now (now (self .entry) .right))) ≡ map means (now (now (self .entry) .out)))) ⌝ }
         ensures paper { λ r. ⌜ Decides r ((now (weights .entry) .width ≤ 1 + committed + 3 * gates) × Holds algebra (system-of algebra (matrix means (now (weights .entry))) committed gates) (map means (now (now (self .entry) .values))) (map means (now (now (self .entry) .left))) (map means (now (now (self .entry) .right))) (map means (now (now (self .entry) .out)))) ⌝ }
     {
-        Circuit::is_satisfied(weights, committed, gates, self.values, self.left, self.right)
-            && products_hold(self.left, self.right, self.out)
+        let (left, right) = (self.left, self.right);
+        let values = self.values;
+        Circuit::is_satisfied(weights, committed, gates, values, left, right)
+            && products_hold(left, right, self.out)
     }
 }

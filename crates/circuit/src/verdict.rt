@@ -8,8 +8,8 @@ ghost use Rattle.refusal.specs.Number.{number-of};
 ghost use Rattle.matrix.specs.Table.{matrix};
 ghost use Rattle.circuit.specs.Bulletproofs.{Holds, hadamard};
 ghost use Rattle.circuit.specs.Verdict.{Satisfied, system-of};
-use super::rows::rows_vanish;
 use super::Circuit;
+use super::rows::rows_vanish;
 use matrix::SparseMatrix;
 use refusal::Refusal;
 use ring::Ring;
@@ -56,5 +56,9 @@ impl Circuit {
 fn fits(width: u32, committed: usize, gates: usize) -> bool
     ensures { λ r. ⌜ Decides r (width ≤ 1 + committed + 3 * gates) ⌝ }
 {
-    width as usize <= gates.saturating_mul(3).saturating_add(committed).saturating_add(1)
+    width as usize
+        <= gates
+            .saturating_mul(3)
+            .saturating_add(committed)
+            .saturating_add(1)
 }

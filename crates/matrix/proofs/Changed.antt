@@ -15,13 +15,19 @@ use Rattle.matrix.specs.declared.Cell.{Cell}
 use Rattle.matrix.specs.Cells.{cell, before, same-place, covers, present, weight-at, changed, entry, row-sum}
 use Rattle.matrix.proofs.Order.{Later, All-later, Ordered, all-later-through, later-else, later-apart, earlier-apart, place-row, place-column, covers-more}
 
--- what comes after a place is not at it
 pub none-later : {M : Type 0} (R : Ring-on M) (r c : ℕ) (xs : List (Cell M)) → All-later r c xs → (present r c xs ≡ false) × (weight-at R r c xs ≡ R .nought)
 none-later R r c [] h = (refl, refl)
 none-later R r c (x ∷ xs) h =
     let apart = earlier-apart (x .row) (x .column) r c (h .0) in
     let rest = none-later R r c xs (h .1) in
     (or-from _ _ apart (rest .0), cond-false _ _ _ apart ∙ rest .1)
+
+-- what comes after a place has no weight at it
+pub none-at : {M : Type 0} (R : Ring-on M) (r c i j : ℕ) (xs : List (Cell M)) → All-later r c xs → same-place r c i j ≡ true → weight-at R i j xs ≡ R .nought
+none-at R r c i j xs h s =
+    let row = place-row r c i j s in
+    let column = place-column r c i j s in
+    subst (λ (n : ℕ). weight-at R n j xs ≡ R .nought) row (subst (λ (n : ℕ). weight-at R r n xs ≡ R .nought) column (none-later R r c xs h .1))
 
 -- no cell is at two places
 not-both : (a b r c i j : ℕ) → before a b r c ≡ true → same-place a b i j ≡ true → same-place r c i j ≡ false
@@ -42,12 +48,6 @@ module _ {M : Type 0} (R : Ring-on M) (r c : ℕ) (f : M → M) where
   before-all : (s : Bool) (w : M) → (s ≡ true → w ≡ R .nought) → cond s (f (R .nought)) w ≡ cond s (f w) w
   before-all true w h = ap f (sym (h refl))
   before-all false w h = refl
-
-  none-at : (i j : ℕ) (xs : List (Cell M)) → All-later r c xs → same-place r c i j ≡ true → weight-at R i j xs ≡ R .nought
-  none-at i j xs h s =
-      let row = place-row r c i j s in
-      let column = place-column r c i j s in
-      subst (λ (n : ℕ). weight-at R n j xs ≡ R .nought) row (subst (λ (n : ℕ). weight-at R r n xs ≡ R .nought) column (none-later R r c xs h .1))
 
   later-changed : (a b : ℕ) (xs : List (Cell M)) → Later a b r c → All-later a b xs → All-later a b (changed R r c f xs)
   later-changed a b [] h k = (h, tt)
@@ -89,12 +89,12 @@ module _ {M : Type 0} (R : Ring-on M) (r c : ℕ) (f : M → M) where
       elim (cases-bool (before (x .row) (x .column) r c)) [
         | inl b ↦ rw b (ap (λ t. x ∷ t) (changed-as w xs (order .1) (is ∙ ap f (cond-false _ _ _ (later-apart (x .row) (x .column) r c b)))))
         | inr nb ↦ elim (cases-bool (same-place (x .row) (x .column) r c)) [
-            | inl y ↦ rw (nb, y) (ap (λ m. cell r c m ∷ xs) (is ∙ ap f (cond-true _ _ _ y)))
-            | inr n ↦
-                let l = later-else (x .row) (x .column) r c nb n in
-                let none = none-later R r c xs (all-later-through r c (x .row) (x .column) xs l (order .0)) .1 in
-                rw (nb, n) (ap (λ m. cell r c m ∷ x ∷ xs) (is ∙ ap f (cond-false _ _ _ n ∙ none)))
-          ]
+          | inl y ↦ rw (nb, y) (ap (λ m. cell r c m ∷ xs) (is ∙ ap f (cond-true _ _ _ y)))
+          | inr n ↦
+              let l = later-else (x .row) (x .column) r c nb n in
+              let none = none-later R r c xs (all-later-through r c (x .row) (x .column) xs l (order .0)) .1 in
+              rw (nb, n) (ap (λ m. cell r c m ∷ x ∷ xs) (is ∙ ap f (cond-false _ _ _ n ∙ none)))
+        ]
       ]
 
   -- the weight at the place went through f, and every other stands
@@ -105,11 +105,11 @@ module _ {M : Type 0} (R : Ring-on M) (r c : ℕ) (f : M → M) where
       elim (cases-bool (before (x .row) (x .column) r c)) [
         | inl b ↦ rw b (ap (cond (same-place (x .row) (x .column) i j) (x .weight)) (weight-changed i j xs (order .1)) ∙ apart-swap (same-place (x .row) (x .column) i j) (same-place r c i j) (x .weight) w (not-both (x .row) (x .column) r c i j b))
         | inr nb ↦ elim (cases-bool (same-place (x .row) (x .column) r c)) [
-            | inl y ↦ rw (nb, y) (at-one (same-place r c i j) (x .weight) w ∙ ap (λ s. cond (same-place r c i j) (f (cond s (x .weight) w)) (cond s (x .weight) w)) (one-place (x .row) (x .column) r c i j y))
-            | inr n ↦
-                let l = later-else (x .row) (x .column) r c nb n in
-                rw (nb, n) (before-all (same-place r c i j) (weight-at R i j (x ∷ xs)) (λ s. none-at i j (x ∷ xs) (l, all-later-through r c (x .row) (x .column) xs l (order .0)) s))
-          ]
+          | inl y ↦ rw (nb, y) (at-one (same-place r c i j) (x .weight) w ∙ ap (λ s. cond (same-place r c i j) (f (cond s (x .weight) w)) (cond s (x .weight) w)) (one-place (x .row) (x .column) r c i j y))
+          | inr n ↦
+              let l = later-else (x .row) (x .column) r c nb n in
+              rw (nb, n) (before-all (same-place r c i j) (weight-at R i j (x ∷ xs)) (λ s. none-at R r c i j (x ∷ xs) (l, all-later-through r c (x .row) (x .column) xs l (order .0)) s))
+        ]
       ]
 
 -- adding a weight adds its product with the list's entry to the sum of its row

@@ -57,9 +57,9 @@ module _ {M : Type 0} (R : Ring-on M) (room r c : ℕ) (f : M → M) (m : Matrix
   changed-cells n e =
       elim (cases-bool (ltb r limit && ltb c limit)) [
         | inl p ↦ elim (cases-bool (present r c (m .cells) || ltb (length (m .cells)) room)) [
-            | inl q ↦ let same : n ≡ raised (r + 1) (c + 1) (record { cells = changed R r c f (m .cells); height = m .height; width = m .width }) = let h = e ∙ cond-true _ _ _ p ∙ cond-true _ _ _ q in cc in ap (λ (k : Matrix M). k .cells) same
-            | inr q ↦ absurd (let h = e ∙ cond-true _ _ _ p ∙ cond-false _ _ _ q in let z : _≡_ {A = ℕ} 0 1 = cc in omega arith)
-          ]
+          | inl q ↦ let same : n ≡ raised (r + 1) (c + 1) (record { cells = changed R r c f (m .cells); height = m .height; width = m .width }) = let h = e ∙ cond-true _ _ _ p ∙ cond-true _ _ _ q in cc in ap (λ (k : Matrix M). k .cells) same
+          | inr q ↦ absurd (let h = e ∙ cond-true _ _ _ p ∙ cond-false _ _ _ q in let z : _≡_ {A = ℕ} 0 1 = cc in omega arith)
+        ]
         | inr p ↦ absurd (let h = e ∙ cond-false _ _ _ p in let z : _≡_ {A = ℕ} 0 1 = cc in omega arith)
       ]
 

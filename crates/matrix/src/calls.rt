@@ -1,4 +1,4 @@
-// The calls on a matrix.
+// The calls that make and change a matrix, and its product with a list.
 ghost use mathlib.Core.Path.{_≡_};
 ghost use mathlib.Core.Bool.{cond};
 ghost use mathlib.Core.List.{map};
@@ -14,38 +14,15 @@ ghost use Rattle.matrix.specs.Laws.{Weight-through, Sums-grow};
 ghost use Rattle.matrix.specs.Matrix.{empty, padded, added, assigned, limit};
 ghost use Rattle.matrix.specs.Places.{Place};
 ghost use Rattle.matrix.specs.Table.{matrix, room, Blank, Unchanged};
-use super::sums::accumulate;
-use super::table::place;
-use super::table::weight_there;
-use super::table::write;
 use super::Cell;
 use super::SparseMatrix;
+use super::sums::accumulate;
+use super::table::write;
 use refusal::Refusal;
 use ring::Ring;
 
 // No row or column index reaches it, and no size is above it.
 const LIMIT: u32 = 1_048_576;
-
-impl<'a, E> SparseMatrix<'a, E> {
-    pub fn width(&self) -> u32
-        ensures { λ r. ⌜ r ≡ now (self .entry) .width ⌝ }
-    {
-        self.width
-    }
-
-    pub fn height(&self) -> u32
-        ensures { λ r. ⌜ r ≡ now (self .entry) .height ⌝ }
-    {
-        self.height
-    }
-
-    // The cells, in rising row, then column.
-    pub fn cells(&self) -> &[Cell<E>]
-        ensures { λ r. ⌜ now r ≡ take (now (self .entry) .count) (now (now (self .entry) .cells)) ⌝ }
-    {
-        &self.cells[0..self.count]
-    }
-}
 
 impl<'a, E: Ring> SparseMatrix<'a, E> {
     // A matrix without cells, over a table that is made blank.
@@ -84,13 +61,6 @@ impl<'a, E: Ring> SparseMatrix<'a, E> {
         self.width = self.width.max(width);
         self.height = self.height.max(height);
         Ok(())
-    }
-
-    // The weight at a row and a column, zero where there is no cell.
-    pub fn get(&self, row: u32, column: u32) -> E
-        ensures { λ r. ⌜ means r ≡ weight-at algebra row column (matrix means (now (self .entry)) .cells) ⌝ }
-    {
-        self.weight(self.place(row, column), row, column)
     }
 
     // Adds to the weight at a row and a column; an absent cell is made from zero.
@@ -134,21 +104,6 @@ impl<'a, E: Ring> SparseMatrix<'a, E> {
         }
         accumulate(self.cells(), list, result);
         Ok(())
-    }
-
-    // Where the cell of a row and a column is, or belongs.
-    fn place(&self, row: u32, column: u32) -> usize
-        ensures { λ r. ⌜ Place (now (now (self .entry) .cells)) (now (self .entry) .count) row column r ⌝ }
-    {
-        place(self.cells, self.count, row, column)
-    }
-
-    // The weight at a row and a column, whose place is `at`.
-    fn weight(&self, at: usize, row: u32, column: u32) -> E
-        requires { ⌜ Place (now (now self .cells)) (now self .count) row column at ⌝ }
-        ensures { λ r. ⌜ means r ≡ weight-at algebra row column (matrix means (now (self .entry)) .cells) ⌝ }
-    {
-        weight_there(self.cells, self.count, at, row, column)
     }
 
     // Writes the weight at a row and a column, whose place is `at`, and raises the sizes to cover it.

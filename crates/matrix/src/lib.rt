@@ -7,6 +7,7 @@ ghost use denote.Ref.{now as held};
 ghost use Rattle.matrix.specs.Cells.{in-order, covers};
 
 mod calls;
+mod reading;
 mod sums;
 mod table;
 

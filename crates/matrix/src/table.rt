@@ -45,7 +45,11 @@ fn stands<E: Ring>(cells: &[Cell<E>], count: usize, at: usize, row: u32, column:
 {
     if at < count {
         let cell = cells[at];
-        if cell.row == row { cell.column == column } else { false }
+        if cell.row == row {
+            cell.column == column
+        } else {
+            false
+        }
     } else {
         false
     }

@@ -1,4 +1,6 @@
 // Every cause for which a call of the library is refused.
+use std::error::Error;
+use std::fmt;
 ghost use mathlib.Core.Path.{_≡_};
 ghost use Rattle.refusal.specs.Number.{number-of};
 
@@ -27,3 +29,12 @@ impl Refusal {
         }
     }
 }
+
+pub impl fmt::Display for Refusal as RefusalDisplay {
+    fn fmt<W: fmt::Write>(&self, f: &mut fmt::Formatter<W>) -> fmt::Result {
+        let number = self.number();
+        write!(f, "refused with {number}")
+    }
+}
+
+pub impl Error for Refusal as RefusalError {}

@@ -21,7 +21,7 @@ loop-cell-again g c =
     let A = m .algebra in
     let list = filled A (map (m .means) (a .values .now)) (map (m .means) (a .left .now)) (map (m .means) (a .right .now)) in
     let xs = meant (m .means) (a .cells .now) in
-    let order = order-holds _ (order-meant (m .means) (a .cells .now) ∙ c .pre) in
+    let order = order-holds (meant (m .means) (a .cells .now)) (order-meant (m .means) (a .cells .now) ∙ c .pre) in
     let x = c .cell-item .result in
     let e : Cell (m .Member) = cell (x .row) (x .column) (m .means (x .weight)) in
     let at = cell-at (m .means) (a .cells .now) (c .loop-cell .cell-index) x (omega arith) (c .cell-item .is) in
@@ -45,7 +45,7 @@ returns-then-not-equal g c =
     let a = c .args in
     let A = m .algebra in
     let list = filled A (map (m .means) (a .values .now)) (map (m .means) (a .left .now)) (map (m .means) (a .right .now)) in
-    let order = order-holds _ (order-meant (m .means) (a .cells .now) ∙ c .pre) in
+    let order = order-holds (meant (m .means) (a .cells .now)) (order-meant (m .means) (a .cells .now) ∙ c .pre) in
     let x = c .cell-item .result in
     let at = cell-at (m .means) (a .cells .now) (c .loop-cell .cell-index) x (omega arith) (c .cell-item .is) in (
       λ no′. absurd (false≢true no′),

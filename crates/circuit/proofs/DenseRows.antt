@@ -1,5 +1,5 @@
 -- A row's sum over the cells is the dot product of the row's weights with the list.
-use mathlib.Core.Path.{_≡_, refl, sym, _∙_}
+use mathlib.Core.Path.{_≡_, refl, sym}
 use mathlib.Core.Bool.{Bool, true, false, cond, _&&_}
 use mathlib.Core.List.{List, [], _∷_, map}
 use Prim.Native.Nat.{ℕ, _≤_, _<_}
@@ -7,53 +7,30 @@ use native.Mathlib.Omega.{arith}
 use lib.Dec.{eqb, ltb}
 use Rattle.std.specs.Iters.{counting}
 use Rattle.std.proofs.shelf.Tests.{cond-both, cond-true, cond-false, ne-eqb, ltb-true, and-parts}
-use Rattle.std.proofs.shelf.Ways.{tells}
 use Rattle.ring.specs.Algebra.{Ring-on}
 use Rattle.ring.proofs.Laws.{nought-plus}
 use Rattle.matrix.specs.declared.Cell.{Cell}
-use Rattle.matrix.specs.Cells.{before, same-place, rises-from, in-order, covers, weight-at, row-sum, entry}
+use Rattle.matrix.specs.Cells.{same-place, covers, weight-at, row-sum, entry}
+use Rattle.matrix.proofs.Changed.{none-at}
+use Rattle.matrix.proofs.Order.{All-later, Ordered}
 use Rattle.circuit.specs.Bulletproofs.{dot}
 use Rattle.circuit.proofs.Dots.{dot-nought, dot-single, dot-plus}
 
--- a place a, b that is not after r, c is neither at nor after a later place i, j
-not-here : (r c i j a b : ℕ) → before r c i j ≡ true → before r c a b ≡ false → same-place i j a b ≡ false
-not-here r c i j a b h k = grind (arith, tells)
-
-not-after : (r c i j a b : ℕ) → before r c i j ≡ true → before r c a b ≡ false → before i j a b ≡ false
-not-after r c i j a b h k = grind (arith, tells)
-
-same-not-before : (i j a b : ℕ) → same-place i j a b ≡ true → before i j a b ≡ false
-same-not-before i j a b h = grind (arith, tells)
-
-in-order-tail : {E : Type 0} (x : Cell E) (xs : List (Cell E)) → in-order (x ∷ xs) ≡ true → in-order xs ≡ true
-in-order-tail x [] h = refl
-in-order-tail x (y ∷ ys) h = and-parts (before (x .row) (x .column) (y .row) (y .column)) (rises-from (y .row) (y .column) ys) h .1
-
 module _ {M : Type 0} (R : Ring-on M) where
-  -- cells after row r, column c have no weight at a place that is not after it
-  absent : (a b r c : ℕ) (xs : List (Cell M))
-      → before r c a b ≡ false → rises-from r c xs ≡ true
-      → weight-at R a b xs ≡ R .nought
-  absent a b r c [] h k = refl
-  absent a b r c (x ∷ xs) h k =
-      let both = and-parts (before r c (x .row) (x .column)) (rises-from (x .row) (x .column) xs) k in
-      cond-false _ _ _ (not-here r c (x .row) (x .column) a b (both .0) h)
-      ∙ absent a b (x .row) (x .column) xs (not-after r c (x .row) (x .column) a b (both .0) h) (both .1)
-
   -- the weight of one cell at a place
   abbrev part : ℕ → Cell M → ℕ → M
   part q x j = cond (same-place (x .row) (x .column) q j) (x .weight) (R .nought)
 
   -- a cell in front adds its weight at its own place, where the later cells have none
   weight-more : (q j : ℕ) (x : Cell M) (xs : List (Cell M))
-      → in-order (x ∷ xs) ≡ true
+      → All-later (x .row) (x .column) xs
       → weight-at R q j (x ∷ xs) ≡ R .plus (part q x j) (weight-at R q j xs)
   weight-more q j x xs h =
       let rest = weight-at R q j xs in
       cond-both (same-place (x .row) (x .column) q j) (x .weight) rest (λ (w : M). w ≡ R .plus (part q x j) rest)
       (λ e.
       let here : part q x j ≡ x .weight = cond-true _ _ _ e in
-      let none = absent q j (x .row) (x .column) xs (same-not-before (x .row) (x .column) q j e) h in
+      let none = none-at R (x .row) (x .column) q j xs h e in
       let sum = R .plus-nought (x .weight) in
       cc)
       (λ e.
@@ -69,15 +46,15 @@ module _ {M : Type 0} (R : Ring-on M) where
   one-dot false k n w list lt = dot-nought R (λ j. R .nought) 0 n list (λ j _. refl)
 
   pub row-sum-dot : (h w n q : ℕ) (list : List M) (xs : List (Cell M))
-      → in-order xs ≡ true → covers h w xs ≡ true → w ≤ n
+      → Ordered xs → covers h w xs ≡ true → w ≤ n
       → row-sum R list q xs ≡ dot R (map (λ j. weight-at R q j xs) (counting 0 n)) list
   row-sum-dot h w n q list [] order cover le = sym (dot-nought R (λ j. R .nought) 0 n list (λ j _. refl))
   row-sum-dot h w n q list (x ∷ xs) order cover le =
       let both = and-parts (ltb (x .row) h && ltb (x .column) w) (covers h w xs) cover in
       let column = ltb-true (x .column) w (and-parts (ltb (x .row) h) (ltb (x .column) w) (both .0) .1) in
       let first = one-dot (eqb (x .row) q) (x .column) n (x .weight) list (omega arith) in
-      let rest = row-sum-dot h w n q list xs (in-order-tail x xs order) (both .1) le in
-      let all = dot-plus R (λ j. weight-at R q j (x ∷ xs)) (part q x) (λ j. weight-at R q j xs) (counting 0 n) list (λ j. weight-more q j x xs order) in
+      let rest = row-sum-dot h w n q list xs (order .1) (both .1) le in
+      let all = dot-plus R (λ j. weight-at R q j (x ∷ xs)) (part q x) (λ j. weight-at R q j xs) (counting 0 n) list (λ j. weight-more q j x xs (order .0)) in
       cc
 
   -- a row from the height on has no cell
