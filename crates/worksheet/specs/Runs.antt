@@ -12,6 +12,7 @@ use Rattle.ring.specs.Algebra.{Ring-on, Field-of}
 use Rattle.worksheet.specs.declared.CircuitIdx.{CircuitIdx}
 use Rattle.worksheet.specs.declared.CircuitIdx.the-variants.{Constant, Witness, Node}
 use Rattle.worksheet.specs.declared.CircuitNode.{CircuitNode}
+use Rattle.worksheet.specs.declared.Counts.{Counts}
 use Rattle.worksheet.specs.declared.Var.{Var}
 use Rattle.worksheet.specs.declared.Var.the-variants.{Native, Circuit}
 use Rattle.worksheet.specs.Sheet.{Sheet, empty-sheet, combine, left-of, right-of}
@@ -192,11 +193,8 @@ abbrev pub refusal : List (Bool × ℕ) → Option ℕ
 refusal [] = None
 refusal (p ∷ ps) = cond (p .0) (Some (p .1)) (refusal ps)
 
-pub record Capacities : Type 0 where
-  pub constants : ℕ
-  pub witnesses : ℕ
-  pub nodes : ℕ
-  pub assertions : ℕ
+abbrev pub Capacities : Type 0
+Capacities = Counts
 
 abbrev pub call-causes : {M : Type 0} (R : Ring-on M) {r : Role} → Capacities → Sheet M → Call R r → List (Bool × ℕ)
 call-causes R cap S c =
