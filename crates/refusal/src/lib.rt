@@ -6,6 +6,19 @@ ghost use Rattle.refusal.specs.Number.{number-of};
 
 #[derive(Clone, Copy, PartialEq, Eq, Debug)]
 pub enum Refusal {
+    // a capacity above the limit
+    Capacity,
+    // a table shorter than its capacity
+    ShortTable,
+    // an id that is absent
+    Absent,
+    // two unequal natives asserted equal
+    Unequal,
+    // more constants, witnesses, nodes or assertions than the worksheet has room for
+    Constants,
+    Witnesses,
+    Nodes,
+    Assertions,
     // a row or column index, or a padded size, past the limit
     Beyond,
     // the table of cells is full
@@ -22,6 +35,14 @@ impl Refusal {
         ensures { λ r. ⌜ r ≡ number-of self ⌝ }
     {
         match self {
+            Refusal::Capacity => 1,
+            Refusal::ShortTable => 2,
+            Refusal::Absent => 3,
+            Refusal::Unequal => 4,
+            Refusal::Constants => 5,
+            Refusal::Witnesses => 6,
+            Refusal::Nodes => 7,
+            Refusal::Assertions => 8,
             Refusal::Beyond => 15,
             Refusal::CellsFull => 16,
             Refusal::Width => 17,

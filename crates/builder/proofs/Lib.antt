@@ -1,0 +1,5 @@
+pub mod Pushes
+pub mod Growth
+pub mod Sizes
+pub mod Calling
+pub mod Asking

@@ -1,0 +1,18 @@
+// A verifier's worksheet: structure and no values.
+use builder::Builder;
+
+mod arithmetic;
+mod boolean;
+mod division;
+mod life;
+mod sealed_calls;
+
+// A worksheet that takes builder calls.
+pub struct Open {
+    builder: Builder,
+}
+
+// A worksheet that takes no more calls.
+pub struct Sealed {
+    builder: Builder,
+}

@@ -1,0 +1,36 @@
+// How a worksheet is opened and sealed.
+ghost use mathlib.Core.Path.{_≡_};
+ghost use Rattle.std.specs.Results.{Cases};
+ghost use Rattle.refusal.specs.Number.{number-of};
+ghost use Rattle.builder.specs.Cost.{counts as entries};
+ghost use Rattle.builder.specs.Within.{Small};
+use super::Open;
+use super::Sealed;
+use builder::Builder;
+use refusal::Refusal;
+use worksheet::Counts;
+
+impl Open {
+    // An empty worksheet with room for so many entries.
+    pub fn new(capacity: Counts) -> Result<Open, Refusal>
+        ensures { λ r. ⌜ Cases r (λ o. Small capacity × (o .builder .capacity ≡ capacity) × (o .builder .counts ≡ entries 0 0 0 0)) (λ e. (number-of e ≡ 1) × (Small capacity → ⊥)) ⌝ }
+    {
+        match Builder::new(capacity) {
+            Ok(builder) => Ok(Open { builder }),
+            Err(refusal) => Err(refusal),
+        }
+    }
+
+    pub fn counts(&self) -> Counts
+        ensures { λ r. ⌜ r ≡ now (self .entry) .builder .counts ⌝ }
+    {
+        self.builder.counts()
+    }
+
+    pub fn seal(self) -> Sealed
+        ensures { λ r. ⌜ r .builder ≡ self .builder ⌝ }
+    {
+        let Open { builder } = self;
+        Sealed { builder }
+    }
+}
