@@ -15,6 +15,7 @@ mod requests;
 mod writing;
 
 // How much of its tables a worksheet has filled.
+#[derive(Drop)]
 pub struct Builder {
     capacity: Counts,
     counts: Counts,
