@@ -13,6 +13,8 @@ use ring::Ring;
 use std::error::AnyError;
 use std::io;
 
+mod sheet;
+
 // What the bond pays at its three dates.
 const FLOWS: [u32; 3] = [2, 2, 52];
 
@@ -173,6 +175,7 @@ fn run(rt: &impl Print) -> Result<(), AnyError> {
         rt,
         "The desk commits to a factor for each date and quotes 52.76."
     )?;
+    sheet::build(rt, FLOWS, PRICE)?;
     check_tied(rt)?;
     check_untied(rt)
 }
