@@ -7,6 +7,7 @@ ghost use Rattle.worksheet.specs.Runs.{bit};
 ghost use Rattle.builder.specs.Booleans.{request-of};
 ghost use Rattle.builder.specs.Called.{Called};
 ghost use Rattle.builder.specs.Requests.{Of, shown};
+ghost use Rattle.builder.specs.Within.{Within};
 use super::BoolRequest;
 use super::BoolVar;
 use super::Builder;
@@ -58,6 +59,7 @@ impl Builder {
     ) -> Result<BoolVar<E>, Refusal>
         ensures called { λ r. ⌜ Of algebra means (request-of request) (λ c. Called algebra means (now (self .entry) .capacity) (now (self .entry) .counts) (now (self .exit) .counts) (now (constants .entry)) (now (constants .exit)) (now (nodes .entry)) (now (nodes .exit)) (now (assertions .entry)) (now (assertions .exit)) c (outcome (λ v. shown algebra means (request-of request) (var-means means (v .var))) r)) ⌝ }
         ensures capacity { λ _. ⌜ now (self .exit) .capacity ≡ now (self .entry) .capacity ⌝ }
+        ensures grows { λ _. ⌜ Within (now (self .entry) .counts) (now (self .exit) .counts) ⌝ }
     {
         match self.call(constants, nodes, assertions, request_of(request)) {
             Ok(var) => Ok(BoolVar { var }),

@@ -7,6 +7,7 @@ ghost use Rattle.refusal.specs.Outcome.{outcome};
 ghost use Rattle.worksheet.specs.Calls.{var-means};
 ghost use Rattle.builder.specs.Called.{short, Called};
 ghost use Rattle.builder.specs.Requests.{Of, shown};
+ghost use Rattle.builder.specs.Within.{Within};
 use super::Builder;
 use super::Request;
 use super::Tables;
@@ -29,6 +30,7 @@ impl Builder {
     ) -> Result<Var<E>, Refusal>
         ensures called { λ r. ⌜ Of algebra means request (λ c. Called algebra means (now (self .entry) .capacity) (now (self .entry) .counts) (now (self .exit) .counts) (now (constants .entry)) (now (constants .exit)) (now (nodes .entry)) (now (nodes .exit)) (now (assertions .entry)) (now (assertions .exit)) c (outcome (λ v. shown algebra means request (var-means means v)) r)) ⌝ }
         ensures capacity { λ _. ⌜ now (self .exit) .capacity ≡ now (self .entry) .capacity ⌝ }
+        ensures grows { λ _. ⌜ Within (now (self .entry) .counts) (now (self .exit) .counts) ⌝ }
     {
         let short = self.is_short(constants.len(), nodes.len(), assertions.len());
         let known = self.knows_all(request);

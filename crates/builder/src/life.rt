@@ -34,6 +34,12 @@ impl Builder {
         })
     }
 
+    pub fn capacity(&self) -> Counts
+        ensures { λ r. ⌜ r ≡ now (self .entry) .capacity ⌝ }
+    {
+        self.capacity
+    }
+
     pub fn counts(&self) -> Counts
         ensures { λ r. ⌜ r ≡ now (self .entry) .counts ⌝ }
     {

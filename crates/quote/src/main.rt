@@ -12,14 +12,26 @@ use residue::ResidueRing;
 use ring::Ring;
 use std::error::AnyError;
 use std::io;
+use worksheet::Counts;
+use worksheet::Var;
 
-mod sheet;
+mod proving;
+mod show;
+mod verifying;
 
 // What the bond pays at its three dates.
 const FLOWS: [u32; 3] = [2, 2, 52];
 
 // The price quoted, in hundredths.
 const PRICE: u32 = 5276;
+
+// Room in a worksheet for the quote and nothing more.
+const CAPACITY: Counts = Counts {
+    constants: 4,
+    witnesses: 2,
+    nodes: 5,
+    assertions: 1,
+};
 
 // A slot for each date, and a gate for each curve point.
 const SLOTS: usize = 3;
@@ -34,6 +46,10 @@ const COMMITTED: u32 = 1;
 const LEFT: u32 = 4;
 
 const WIDTH: u32 = 10;
+
+fn native(x: u32) -> Var<Residue> {
+    Var::Native(Residue::new(x))
+}
 
 // The price, as the flows times the factors: the first two dates share the first slot's factor.
 fn write_price(rows: &mut SparseMatrix<'_, Residue>) -> Result<(), Refusal> {
@@ -175,7 +191,14 @@ fn run(rt: &impl Print) -> Result<(), AnyError> {
         rt,
         "The desk commits to a factor for each date and quotes 52.76."
     )?;
-    sheet::build(rt, FLOWS, PRICE)?;
+    verifying::build(rt, FLOWS, PRICE)?;
+    println!(
+        rt,
+        "The same worksheet, as the desk builds it with the curve's values:"
+    )?;
+    proving::build(rt, FLOWS, PRICE, points())?;
+    println!(rt, "And with 52.77 in the place of the price:")?;
+    proving::build(rt, FLOWS, 5277, points())?;
     check_tied(rt)?;
     check_untied(rt)
 }

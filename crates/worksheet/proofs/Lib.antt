@@ -3,7 +3,7 @@ pub mod Stepping
 mod Growing
 mod Performed
 pub mod Built
-mod Witnesses
+pub mod Witnesses
 mod Holding
 mod OnTheWay
 pub mod Law

@@ -147,4 +147,134 @@ mod tests {
         check(qs[0].0 == CircuitIdx::Constant(2))?;
         check(qs[0].1 == CircuitIdx::Node(2))
     }
+
+    // (a - b) * 2, asserted to be what is claimed, where a is 5 and b is 2.
+    fn double_is(claimed: u32) -> Result<(bool, u16, u8), Refusal> {
+        let mut open = prover::Open::new(counts(3, 2, 3, 1))?;
+        let mut cs = [Residue::zero(); 3];
+        let mut ns = [BLANK; 3];
+        let mut qs = [(C0, C0)];
+        let (mut vs, mut ws) = ([Residue::zero(); 2], [Residue::zero(); 3]);
+        let five = Residue::new(5);
+        let two = Residue::new(2);
+        let a = open.witness(&mut cs, &mut ns, &mut qs, &mut vs, &mut ws, five)?;
+        let b = open.witness(&mut cs, &mut ns, &mut qs, &mut vs, &mut ws, two)?;
+        let difference = open.subtract(&mut cs, &mut ns, &mut qs, &mut vs, &mut ws, a, b)?;
+        let double = open.multiply(
+            &mut cs,
+            &mut ns,
+            &mut qs,
+            &mut vs,
+            &mut ws,
+            difference,
+            native(2),
+        )?;
+        open.assert_equal(
+            &mut cs,
+            &mut ns,
+            &mut qs,
+            &mut vs,
+            &mut ws,
+            double,
+            native(claimed),
+        )?;
+        let sealed = open.seal();
+        let values = sealed.values(&cs, &ns, &qs, &vs, &ws)?;
+        let last = values.get(CircuitIdx::Node(2))?;
+        Ok((
+            values.is_satisfied(),
+            last.value(),
+            number(values.get(CircuitIdx::Node(3))),
+        ))
+    }
+
+    // The verdict is yes exactly if the assertion holds; an id past its count has no value.
+    #[test]
+    fn values_decide_the_verdict() -> Result<(), Fail> {
+        check(double_is(6)? == (true, 6, 3))?;
+        check(double_is(7)? == (false, 6, 3))
+    }
+
+    // A table of values that is short is refused at a call and at reading.
+    #[test]
+    fn value_tables_are_long_enough() -> Result<(), Fail> {
+        let mut open = prover::Open::new(counts(0, 1, 1, 0))?;
+        let (mut cs, mut ns, mut qs) = ([Residue::zero(); 0], [BLANK], [(C0, C0); 0]);
+        let mut one = [Residue::new(7)];
+        let mut other = [Residue::new(8)];
+        let mut none = [Residue::zero(); 0];
+        let x = Residue::one();
+        check_eq(
+            number(open.witness(&mut cs, &mut ns, &mut qs, &mut none, &mut other, x)),
+            2,
+        )?;
+        check_eq(
+            number(open.witness(&mut cs, &mut ns, &mut qs, &mut one, &mut none, x)),
+            2,
+        )?;
+        check(open.counts() == counts(0, 0, 0, 0))?;
+        check_eq((one[0].value(), other[0].value()), (7, 8))?;
+        check_eq(
+            number(open.witness(&mut cs, &mut ns, &mut qs, &mut one, &mut other, x)),
+            0,
+        )?;
+        check_eq(
+            number(open.witness(&mut cs, &mut ns, &mut qs, &mut one, &mut other, x)),
+            6,
+        )?;
+        check_eq((one[0].value(), other[0].value()), (1, 8))?;
+        let sealed = open.seal();
+        check(sealed.counts() == counts(0, 1, 0, 0))?;
+        check_eq(number(sealed.values(&cs, &ns, &qs, &none, &other)), 2)?;
+        check_eq(number(sealed.values(&cs, &ns, &qs, &one, &other)), 0)
+    }
+
+    // The verdict on 1 / x, and the value that was found.
+    fn inverse_of(x: u32) -> Result<(bool, u16), Refusal> {
+        let mut open = prover::Open::new(counts(1, 2, 1, 1))?;
+        let (mut cs, mut ns, mut qs) = ([Residue::zero()], [BLANK], [(C0, C0)]);
+        let (mut vs, mut ws) = ([Residue::zero(); 2], [Residue::zero()]);
+        let x = Residue::new(x);
+        let a = open.witness(&mut cs, &mut ns, &mut qs, &mut vs, &mut ws, x)?;
+        let _ = open.invert(&mut cs, &mut ns, &mut qs, &mut vs, &mut ws, a)?;
+        let sealed = open.seal();
+        let values = sealed.values(&cs, &ns, &qs, &vs, &ws)?;
+        let inverse = values.get(CircuitIdx::Witness(1))?;
+        Ok((values.is_satisfied(), inverse.value()))
+    }
+
+    // The inverse of zero is zero, and its assertion fails.
+    #[test]
+    fn zero_has_no_inverse() -> Result<(), Fail> {
+        check(inverse_of(2)? == (true, 4096))?;
+        check(inverse_of(0)? == (false, 0))
+    }
+
+    // The element that a bit selects of 3 and 4.
+    fn selected_by(bit: bool) -> Result<(bool, u16), Refusal> {
+        let mut open = prover::Open::new(counts(3, 1, 4, 1))?;
+        let (mut cs, mut ns, mut qs) = ([Residue::zero(); 3], [BLANK; 4], [(C0, C0)]);
+        let (mut vs, mut ws) = ([Residue::zero()], [Residue::zero(); 4]);
+        let b = open.boolean_witness(&mut cs, &mut ns, &mut qs, &mut vs, &mut ws, bit)?;
+        let _ = open.select(
+            &mut cs,
+            &mut ns,
+            &mut qs,
+            &mut vs,
+            &mut ws,
+            b,
+            native(3),
+            native(4),
+        )?;
+        let sealed = open.seal();
+        let values = sealed.values(&cs, &ns, &qs, &vs, &ws)?;
+        let selected = values.get(CircuitIdx::Node(2))?;
+        Ok((values.is_satisfied(), selected.value()))
+    }
+
+    #[test]
+    fn a_bit_selects() -> Result<(), Fail> {
+        check(selected_by(true)? == (true, 3))?;
+        check(selected_by(false)? == (true, 4))
+    }
 }

@@ -1,6 +1,8 @@
 use mathlib.Core.Path.{_≡_, refl, sym, ap, subst, _∙_}
 use borrow.Author.Needs.{needs}
+use native.Mathlib.Omega.{arith}
 use Rattle.std.proofs.shelf.Results.{err-from-errBy}
+use Rattle.worksheet.specs.declared.Counts.{Counts}
 use Rattle.builder.specs.declared.cost.Cost.{Cost}
 use Rattle.builder.specs.Requests.{vars, request-cost, performed, shown}
 use Rattle.builder.specs.Tables.{sheet-in}
@@ -22,6 +24,7 @@ returns-in-Break-admit g c =
           refused-call (r .algebra) (r .means) o (a .constants .now) (a .nodes .now) (a .assertions .now) k (vars q) (c .clashes-clash .result) (request-cost q .counts) (performed (r .algebra) (r .means) S q) (shown (r .algebra) (r .means) q) asked
           _ _ _ (c .is-short-short .ensures) (c .knows-all-known .ensures) (ap (λ (n : Cost). n .counts) (c .cost-of-cost .ensures .cost)) _ (c .in-Break-admit .ensures tt));
       capacity = refl;
+      grows = (omega arith, omega arith, omega arith, omega arith);
     })
 
 pub make-answer-requires : need.make-answer-requires
@@ -54,9 +57,14 @@ returns g c =
     let q = a .request in
     let S = sheet-in (r .means) (o .counts) (a .constants .now) (a .nodes .now) (a .assertions .now) in
     let wrote = c .make-answer .ensures in
+    let cs = ap (λ (n : Counts). n .constants) (wrote .grew .counts) in
+    let ws = ap (λ (n : Counts). n .witnesses) (wrote .grew .counts) in
+    let ns = ap (λ (n : Counts). n .nodes) (wrote .grew .counts) in
+    let qs = ap (λ (n : Counts). n .assertions) (wrote .grew .counts) in
     record {
       called = of-asked (r .algebra) (r .means) S q (c .clashes-clash .result) (c .clashes-clash .ensures) _ (λ k asked.
           accepted-call (r .algebra) (r .means) o (a .constants .now) (a .nodes .now) (a .assertions .now) k (vars q) (c .clashes-clash .result) (request-cost q .counts) (performed (r .algebra) (r .means) S q) (shown (r .algebra) (r .means) q) asked
           _ _ _ (c .is-short-short .ensures) (c .knows-all-known .ensures) (ap (λ (n : Cost). n .counts) (c .cost-of-cost .ensures .cost)) (c .in-Continue-admit .ensures tt) _ _ (c .make-answer .result) refl refl refl (wrote .grew) (wrote .answer) _ _ _ (search needs) (search needs) (search needs));
       capacity = refl;
+      grows = (omega arith, omega arith, omega arith, omega arith);
     }
