@@ -1,4 +1,6 @@
 // The field of two elements: sum is exclusive or, and product is and.
+#![tactic(auto)]
+
 ghost use Rattle.std.specs.Prelude.{◌≡◌, Bool};
 ghost use Rattle.bit.specs.Two.{two};
 

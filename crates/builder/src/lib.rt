@@ -1,4 +1,6 @@
 // A worksheet's structure, built call by call in tables that the caller lends: what a prover and a verifier share.
+#![tactic(auto)]
+
 ghost use Rattle.builder.specs.Within.{Within, Small};
 
 use worksheet::{CircuitIdx, CircuitNode, Counts, Var};

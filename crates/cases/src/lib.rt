@@ -1,4 +1,6 @@
 // The cases of the matrix, the verdict and the witness: each refusal, the sizes at their limits, and every ring.
+#![tactic(auto)]
+
 #[cfg(test)]
 mod tests {
     use bit::Bit;

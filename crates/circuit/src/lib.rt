@@ -1,4 +1,6 @@
 // When columns satisfy the rows of a matrix: the verdict on a circuit, and a prover's witness.
+#![tactic(auto)]
+
 ghost use Rattle.std.specs.Prelude.{◌≡◌, length};
 
 mod columns;

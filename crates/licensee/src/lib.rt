@@ -1,4 +1,6 @@
 // A ring of a licensee's own: the hours of a clock, which are the residues modulo 12.
+#![tactic(auto)]
+
 ghost use Rattle.std.specs.Prelude.{◌≡◌, ◌%◌, ◌<◌};
 ghost use Rattle.std.proofs.Common.{lit<};
 ghost use Rattle.ring.specs.Modular.{Class, class_of, modular};

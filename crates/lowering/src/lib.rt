@@ -1,4 +1,6 @@
 // Lowering: how a worksheet becomes gates, committed columns and rows. What it is, and the law on it, are in specs/.
+#![tactic(auto)]
+
 use worksheet::CircuitIdx;
 
 mod faithful;

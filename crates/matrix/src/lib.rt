@@ -1,4 +1,6 @@
 // A sparse matrix over a lent table of cells.
+#![tactic(auto)]
+
 ghost use Rattle.std.specs.Prelude.{◌≡◌, ◌≤◌, true, length, take};
 ghost use Rattle.matrix.specs.Cells.{in_order, covers};
 

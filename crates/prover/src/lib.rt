@@ -1,4 +1,6 @@
 // A prover's worksheet: its structure, and the value of every witness and node, in tables that the caller lends.
+#![tactic(auto)]
+
 use builder::Builder;
 use worksheet::{CircuitIdx, Counts};
 

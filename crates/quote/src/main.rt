@@ -1,5 +1,7 @@
 // A bond quote checked from its rows: an honest desk, a desk that commits to another factor for the
 // second of two dates on one curve point, and the same columns without that slot's tie.
+#![tactic(auto)]
+
 use circuit::Circuit;
 use matrix::{Cell, SparseMatrix};
 use refusal::Refusal;

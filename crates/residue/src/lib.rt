@@ -1,4 +1,6 @@
 // The field of the residues modulo the prime 8,191.
+#![tactic(auto)]
+
 ghost use Rattle.std.specs.Prelude.{◌≡◌, ◌%◌, ◌<◌, T};
 ghost use Rattle.std.proofs.Common.{lit<};
 ghost use Rattle.ring.specs.Algebra.{FieldOf};

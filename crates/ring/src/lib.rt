@@ -1,4 +1,6 @@
 // What the library asks of a licensee's numbers: a commutative ring, and for division a field.
+#![tactic(auto)]
+
 ghost use Rattle.std.specs.Prelude.{◌≡◌, true};
 ghost use Rattle.ring.specs.Algebra.{RingOn, FieldOf};
 
@@ -36,5 +38,5 @@ pub trait Ring: Copy {
 // A ring with inverses.
 pub trait Field: Ring {
     fn inverse(self) -> Self
-        ensures { (F : FieldOf algebra) × (means result ≡ F.inverse (means self)) };
+        ensures { (F : FieldOf Self.algebra) × (Self.means result ≡ F.inverse (Self.means self)) };
 }

@@ -1,4 +1,6 @@
 // A verifier's worksheet: structure and no values.
+#![tactic(auto)]
+
 use builder::Builder;
 
 mod arithmetic;

@@ -1,4 +1,6 @@
 // The ring of the 64-bit words, whose sums and products wrap.
+#![tactic(auto)]
+
 ghost use Rattle.std.specs.Prelude.{◌≡◌, ◌^◌};
 ghost use Rattle.std.proofs.Common.{lit<};
 ghost use Rattle.ring.specs.Modular.{Class, class_of, modular};

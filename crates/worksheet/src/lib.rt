@@ -1,4 +1,6 @@
 // A worksheet's ids, nodes and variables. The definitions of what builder calls do are in specs/.
+#![tactic(auto)]
+
 ghost use Rattle.std.specs.Prelude.{◌≡◌, true};
 ghost use Rattle.worksheet.specs.Law.{LawOfRuns};
 

@@ -1,4 +1,6 @@
 // The cases of builder calls: each refusal, the order of causes, and what is appended.
+#![tactic(auto)]
+
 #[cfg(test)]
 mod tests {
     use refusal::Refusal;
