@@ -1,10 +1,10 @@
 -- What `touched` comes to: accepted, or refused with 16 or 15; and what an accepted change is.
-use Rattle.std.proofs.Common.{◌≡◌, ℕ, ◌+◌, ◌<◌, ◌≤◌, max, Bool, true, false, cond, ◌&&◌, ◌||◌, ltb, List, length, take, IfOk, Ok, Err, Result, sym, refl, ap, ◌∙◌, inl, inr, arith}
+use Rattle.std.proofs.Common.{◌≡◌, ℕ, ◌+◌, ◌<◌, ◌≤◌, max, true, false, cond, ◌&&◌, ◌||◌, ltb, List, length, take, IfOk, Ok, Err, Result, sym, ap, ◌∙◌, inl, inr, arith}
 use lib.ListN.{length-map}
 use Rattle.std.proofs.lemmas.List.{length-take-le}
 use Rattle.std.proofs.lemmas.Bool.{cases_Bool, lt-ltb, le-ltb, and_from, and_left, and_right, cond-true, cond-false}
 use Rattle.refusal.specs.declared.Refusal.{Refusal}
-use Rattle.refusal.specs.Outcome.{Outcome, accepted, refused, outcome}
+use Rattle.refusal.specs.Outcome.{accepted, refused, outcome}
 use Rattle.ring.specs.Algebra.{RingOn}
 use Rattle.matrix.specs.declared.Cell.{Cell}
 use Rattle.matrix.specs.Cells.{meant, present, weight_at, changed, row_sum}

@@ -1,9 +1,9 @@
 -- What the place of a row and a column among cells in order tells: whether the cell is there, its weight, and what a write there makes.
-use Rattle.std.proofs.Common.{◌≡◌, ℕ, zero, suc, ◌+◌, ◌-◌, ◌<◌, ◌≤◌, max, Bool, true, false, cond, ◌||◌, ◌⊎◌, List, [], ◌∷◌, ◌++◌, map, length, get_or, take, drop, set, sym, refl, ap, ◌∙◌, subst, inl, inr, add-one, arith}
+use Rattle.std.proofs.Common.{◌≡◌, ℕ, zero, suc, ◌+◌, ◌<◌, ◌≤◌, max, Bool, true, false, List, [], ◌∷◌, ◌++◌, length, get_or, take, drop, set, sym, refl, ap, ◌∙◌, subst, inl, inr, add-one, arith}
 use lib.Seq.{take-set-lt}
 use Rattle.std.specs.List.{insert}
 use Rattle.std.proofs.lemmas.List.{map-append, drop_more, drop_all, set_split, get_or-take, get_or_default, get_or_read, length-take-le}
-use Rattle.std.proofs.lemmas.Bool.{cases_lt, cond-true, cond-false, or_left}
+use Rattle.std.proofs.lemmas.Bool.{cases_lt, cond-true, or_left}
 use Rattle.ring.specs.Algebra.{RingOn}
 use Rattle.matrix.specs.declared.Cell.{Cell}
 use Rattle.matrix.specs.Cells.{cell, meant, before, same_place, in_order, covers, present, weight_at, changed}

@@ -1,8 +1,8 @@
 -- A rotation by one of the end of a list puts its last element in the middle.
-use Rattle.std.proofs.Common.{◌≡◌, ℕ, ◌+◌, ◌-◌, ◌<◌, ◌≤◌, List, [], ◌∷◌, ◌++◌, length, take, drop, set, sym, refl, ap, ◌∙◌, arith, length-append, length-drop, length-set, length-take}
+use Rattle.std.proofs.Common.{◌≡◌, ℕ, ◌+◌, ◌-◌, ◌<◌, ◌≤◌, List, [], ◌∷◌, ◌++◌, length, take, drop, set, sym, ap, ◌∙◌, arith, length-append, length-drop, length-set, length-take}
 use borrow.Rule.Slice.PartMut.{put_mid}
 use Rattle.std.specs.List.{between, insert}
-use Rattle.std.proofs.lemmas.List.{take_more_set, drop-append-le, drop_at, drop-set-lt, take_at, take-take, take-set-le, length-take-le}
+use Rattle.std.proofs.lemmas.List.{take_more_set, drop-append-le, drop_at, drop-set-lt, take_at, take-take, take-set-le}
 use Rattle.std.proofs.lemmas.Slice.{between_is, take-put_mid, drop-put_mid}
 
 abbrev pub turned : {X : Type 0} → List X → List X

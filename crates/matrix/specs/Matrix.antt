@@ -1,5 +1,5 @@
 -- A sparse matrix, and what each call makes of it.
-use Rattle.std.specs.Prelude.{ℕ, ◌+◌, max, Bool, cond, ◌&&◌, ◌||◌, List, [], length, nat_le, nat_lt}
+use Rattle.std.specs.Prelude.{ℕ, ◌+◌, max, cond, ◌&&◌, ◌||◌, List, [], length, nat_le, nat_lt}
 use Rattle.refusal.specs.Outcome.{Outcome, accepted, refused}
 use Rattle.ring.specs.Algebra.{RingOn}
 use Rattle.matrix.specs.declared.Cell.{Cell}

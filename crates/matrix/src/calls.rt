@@ -20,8 +20,8 @@ const LIMIT: u32 = 1_048_576;
 impl<'a, E: Ring> SparseMatrix<'a, E> {
     // A matrix without cells, over a table that is made blank.
     pub fn new(cells: &'a mut [Cell<E>]) -> SparseMatrix<'a, E>
-        ensures none { matrix means result ≡ empty }
-        ensures blank { Blank algebra means result.cells.now }
+        ensures none { matrix E.means result ≡ empty }
+        ensures blank { Blank E.algebra E.means result.cells.now }
         ensures room { room result ≡ length cells.old }
         ensures lent { result.cells.ghost_name ≡ cells.entry.ghost_name }
     {
@@ -43,7 +43,7 @@ impl<'a, E: Ring> SparseMatrix<'a, E> {
 
     // Raises width and height to these sizes, where they are lower.
     pub fn pad(&mut self, width: u32, height: u32) -> Result<(), Refusal>
-        ensures answer { outcome (λ _. matrix means self.new) result ≡ padded width height (matrix means self.old) }
+        ensures answer { outcome (λ _. matrix E.means self.new) result ≡ padded width height (matrix E.means self.old) }
         ensures refused { OnErr result (Unchanged self.old self.new) }
         ensures table { self.new.cells.now ≡ self.old.cells.now }
         ensures lent { self.new.cells.ghost_name ≡ self.old.cells.ghost_name }
@@ -58,9 +58,9 @@ impl<'a, E: Ring> SparseMatrix<'a, E> {
 
     // Adds to the weight at a row and a column; an absent cell is made from zero.
     pub fn add(&mut self, row: u32, column: u32, weight: E) -> Result<(), Refusal>
-        ensures answer { outcome (λ _. matrix means self.new) result ≡ added algebra (room self.old) row column (means weight) (matrix means self.old) }
-        ensures weights { OnOk result (WeightThrough algebra row column (λ u. algebra.plus u (means weight)) (matrix means self.old) (matrix means self.new)) }
-        ensures sums { OnOk result (SumsGrow algebra row column (means weight) (matrix means self.old) (matrix means self.new)) }
+        ensures answer { outcome (λ _. matrix E.means self.new) result ≡ added E.algebra (room self.old) row column (E.means weight) (matrix E.means self.old) }
+        ensures weights { OnOk result (WeightThrough E.algebra row column (λ u. E.algebra.plus u (E.means weight)) (matrix E.means self.old) (matrix E.means self.new)) }
+        ensures sums { OnOk result (SumsGrow E.algebra row column (E.means weight) (matrix E.means self.old) (matrix E.means self.new)) }
         ensures refused { OnErr result (Unchanged self.old self.new) }
         ensures spare { drop self.new.count self.new.cells.now ≡ drop self.new.count self.old.cells.now }
         ensures lent { self.new.cells.ghost_name ≡ self.old.cells.ghost_name }
@@ -75,8 +75,8 @@ impl<'a, E: Ring> SparseMatrix<'a, E> {
 
     // Sets the weight at a row and a column; an absent cell is made.
     pub fn set(&mut self, row: u32, column: u32, weight: E) -> Result<(), Refusal>
-        ensures answer { outcome (λ _. matrix means self.new) result ≡ assigned algebra (room self.old) row column (means weight) (matrix means self.old) }
-        ensures weights { OnOk result (WeightThrough algebra row column (λ _. means weight) (matrix means self.old) (matrix means self.new)) }
+        ensures answer { outcome (λ _. matrix E.means self.new) result ≡ assigned E.algebra (room self.old) row column (E.means weight) (matrix E.means self.old) }
+        ensures weights { OnOk result (WeightThrough E.algebra row column (λ _. E.means weight) (matrix E.means self.old) (matrix E.means self.new)) }
         ensures refused { OnErr result (Unchanged self.old self.new) }
         ensures spare { drop self.new.count self.new.cells.now ≡ drop self.new.count self.old.cells.now }
         ensures lent { self.new.cells.ghost_name ≡ self.old.cells.ghost_name }
@@ -90,7 +90,7 @@ impl<'a, E: Ring> SparseMatrix<'a, E> {
 
     // The sum of weight times the list's entry for each row; columns past the list's end are skipped.
     pub fn multiply(&self, list: &[E], res: &mut [E]) -> Result<(), Refusal>
-        ensures { MatchResult result (λ _. (length res.old ≡ self.now.height) × (map means res.new ≡ product algebra (map means list.now) self.now.height (matrix means self.now).cells)) (λ e. (number_of e ≡ 18) × (length res.old ≢ self.now.height) × (res.new ≡ res.old)) }
+        ensures { MatchResult result (λ _. (length res.old ≡ self.now.height) × (map E.means res.new ≡ product E.algebra (map E.means list.now) self.now.height (matrix E.means self.now).cells)) (λ e. (number_of e ≡ 18) × (length res.old ≢ self.now.height) × (res.new ≡ res.old)) }
     {
         if res.len() != self.height as usize {
             return Err(Refusal::Length);
@@ -104,7 +104,7 @@ impl<'a, E: Ring> SparseMatrix<'a, E> {
         requires place { Place self.old.cells.now self.old.count row column at }
         requires low { row < limit }
         requires near { column < limit }
-        ensures answer { outcome (λ _. matrix means self.new) result ≡ assigned algebra (room self.old) row column (means weight) (matrix means self.old) }
+        ensures answer { outcome (λ _. matrix E.means self.new) result ≡ assigned E.algebra (room self.old) row column (E.means weight) (matrix E.means self.old) }
         ensures refused { OnErr result (Unchanged self.old self.new) }
         ensures spare { drop self.new.count self.new.cells.now ≡ drop self.new.count self.old.cells.now }
         ensures lent { self.new.cells.ghost_name ≡ self.old.cells.ghost_name }

@@ -32,7 +32,7 @@ impl<'a, E> SparseMatrix<'a, E> {
 impl<'a, E: Ring> SparseMatrix<'a, E> {
     // The weight at a row and a column, zero where there is no cell.
     pub fn get(&self, row: u32, column: u32) -> E
-        ensures { means result ≡ weight_at algebra row column (matrix means self.now).cells }
+        ensures { E.means result ≡ weight_at E.algebra row column (matrix E.means self.now).cells }
     {
         self.weight(self.place(row, column), row, column)
     }
@@ -47,7 +47,7 @@ impl<'a, E: Ring> SparseMatrix<'a, E> {
     // The weight at a row and a column, whose place is `at`.
     pub(super) fn weight(&self, at: usize, row: u32, column: u32) -> E
         requires { Place self.now.cells.now self.now.count row column at }
-        ensures { means result ≡ weight_at algebra row column (matrix means self.now).cells }
+        ensures { E.means result ≡ weight_at E.algebra row column (matrix E.means self.now).cells }
     {
         weight_there(self.cells, self.count, at, row, column)
     }

@@ -8,7 +8,7 @@ use ring::Ring;
 // Writes the sum of each row of the cells: weight times the list's entry at the column.
 pub fn accumulate<E: Ring>(cells: &[Cell<E>], list: &[E], res: &mut [E])
     requires { (w : ℕ) × (covers (length res.old) w cells.now ≡ true) }
-    ensures { map means res.new ≡ product algebra (map means list.now) (length res.new) (meant means cells.now) }
+    ensures { map E.means res.new ≡ product E.algebra (map E.means list.now) (length res.new) (meant E.means cells.now) }
 {
     let zero = E::zero();
     for sum in res.iter_mut() {
@@ -30,7 +30,7 @@ fn entry<E: Ring>(list: &[E], column: u32) -> Option<E>
 // Adds a term to the sum of a row.
 fn raise<E: Ring>(sums: &mut [E], row: u32, term: E)
     requires { row < length sums.old }
-    ensures { (v : E) × (sums.new ≡ slice_set sums.old row v) × (means v ≡ algebra.plus (means (slice_index_or sums.old row v)) (means term)) }
+    ensures { (v : E) × (sums.new ≡ slice_set sums.old row v) × (E.means v ≡ E.algebra.plus (E.means (slice_index_or sums.old row v)) (E.means term)) }
 {
     let row = row as usize;
     sums[row] = sums[row].add(term);

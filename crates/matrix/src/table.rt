@@ -55,7 +55,7 @@ fn stands<E: Ring>(cells: &[Cell<E>], count: usize, at: usize, row: u32, column:
 pub fn weight_there<E: Ring>(cells: &[Cell<E>], count: usize, at: usize, row: u32, column: u32) -> E
     requires front { Front cells.now count }
     requires place { Place cells.now count row column at }
-    ensures { means result ≡ weight_at algebra row column (meant means (take count cells.now)) }
+    ensures { E.means result ≡ weight_at E.algebra row column (meant E.means (take count cells.now)) }
 {
     if stands(cells, count, at, row, column) {
         cells[at].weight
@@ -87,8 +87,8 @@ pub fn write<E: Ring>(
 ) -> Result<usize, Refusal>
     requires front { Front cells.old count }
     requires place { Place cells.old count row column at }
-    ensures verdict { is_ok result ≡ (present row column (meant means (take count cells.old)) || nat_lt count (length cells.old)) }
-    ensures done { MatchResult result (λ n. Written algebra means cells.old cells.new count n row column (means weight)) (λ e. (e ≡ Refusal.CellsFull) × (cells.new ≡ cells.old)) }
+    ensures verdict { is_ok result ≡ (present row column (meant E.means (take count cells.old)) || nat_lt count (length cells.old)) }
+    ensures done { MatchResult result (λ n. Written E.algebra E.means cells.old cells.new count n row column (E.means weight)) (λ e. (e ≡ Refusal.CellsFull) × (cells.new ≡ cells.old)) }
 {
     let cell = Cell {
         row,

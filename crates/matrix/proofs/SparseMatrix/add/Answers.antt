@@ -1,4 +1,4 @@
-use Rattle.std.proofs.Common.{◌≡◌, sym, ap, ◌∙◌}
+use Rattle.std.proofs.Common.{ap, ◌∙◌}
 use Rattle.matrix.specs.Table.{matrix, room}
 use Rattle.matrix.proofs.Held.{ordered_cells}
 use Rattle.matrix.proofs.Order.{order_holds}

@@ -1,4 +1,3 @@
-use Rattle.std.proofs.Common.{◌≡◌, ◌∙◌}
 use Rattle.matrix.specs.Table.{matrix, room}
 use Rattle.matrix.proofs.Held.{ordered_cells}
 use Rattle.matrix.proofs.Order.{order_holds}

@@ -1,13 +1,13 @@
-use Rattle.std.proofs.Common.{◌≡◌, ◌+◌, map, length, get_or, sym, ap, ◌∙◌, subst, arith}
+use Rattle.std.proofs.Common.{◌+◌, map, length, get_or, sym, ap, ◌∙◌, subst, arith}
 use lib.ListN.{length-map}
 use Rattle.std.proofs.lemmas.List.{get_or-map}
 use Rattle.std.proofs.lemmas.List.Edits.{fill_by_more}
 use Rattle.matrix.proofs.RowSums.{Summed, row_within, skipped, summed, all_summed}
 use Rattle.matrix.proofs.sums.accumulate.Goals as goal
-use Rattle.matrix.proofs.sums.accumulate.Goals.{in-Some, in-default}
+use Rattle.matrix.proofs.sums.accumulate.Goals.{in-Some, in_default}
 
 pub loop-sum-preserved : goal.loop-sum-preserved
-loop-sum-preserved g c i d lt = fill_by_more (λ _. c.zero-zero.result) c.loop-sum.result c.loop-sum.sum-index d (omega arith) (λ j l. c.loop-sum.invariant j d l) i lt
+loop-sum-preserved g c i d lt = fill_by_more (λ _. c.zero-zero.result) c.loop-sum.res c.loop-sum.sum-index d (omega arith) (λ j l. c.loop-sum.invariant j d l) i lt
 
 pub loop-cell-init : goal.loop-cell-init
 loop-cell-init g c i d lt = ap g.E.Ring.means (c.loop-sum.invariant i d (omega arith)) ∙ c.zero-zero.ensures
@@ -25,21 +25,21 @@ loop-cell-preserved g c =
     let k = c.loop-cell.cell-index in
     let list = map r.means a.list.now in
     let long = length-map a.list.now r.means in
-    let row = row_within (length a.result.now) c.requires.0 a.cells.now k x c.requires.1 (omega arith) c.cell-item.is in
+    let row = row_within (length a.res.now) c.requires.0 a.cells.now k x c.requires.1 (omega arith) c.cell-item.is in
     elim c.match-entry.branch [
       | in-Some w ↦
           let found = w.in-Some.ensures in
           let raised = w.raise.ensures in
           let column = sym (get_or-map r.means a.list.now x.column w.in-Some.value r.algebra.nought found.0 ∙ ap r.means (sym found.1)) in
-          let is = raised.2 ∙ ap (r.algebra.plus (r.means (get_or c.loop-cell.result x.row raised.0))) (w.multiply.ensures ∙ ap (r.algebra.times (r.means x.weight)) column) in
-          subst (Summed r.algebra list r.means a.cells.now (k + 1)) (sym (w.result-is ∙ raised.1))
-          (summed r.algebra list r.means a.cells.now k c.loop-cell.result c.loop-cell.invariant x (omega arith) c.cell-item.is raised.0 (omega arith) is)
-      | in-default w ↦
-          subst (Summed r.algebra list r.means a.cells.now (k + 1)) (sym w.result-is)
-          (skipped r.algebra list r.means a.cells.now k c.loop-cell.result c.loop-cell.invariant x (omega arith) c.cell-item.is (omega (arith, w.in-default.ensures)))
+          let is = raised.2 ∙ ap (r.algebra.plus (r.means (get_or c.loop-cell.res x.row raised.0))) (w.multiply.ensures ∙ ap (r.algebra.times (r.means x.weight)) column) in
+          subst (Summed r.algebra list r.means a.cells.now (k + 1)) (sym (w.res-is ∙ raised.1))
+          (summed r.algebra list r.means a.cells.now k c.loop-cell.res c.loop-cell.invariant x (omega arith) c.cell-item.is raised.0 (omega arith) is)
+      | in_default w ↦
+          subst (Summed r.algebra list r.means a.cells.now (k + 1)) (sym w.res-is)
+          (skipped r.algebra list r.means a.cells.now k c.loop-cell.res c.loop-cell.invariant x (omega arith) c.cell-item.is (omega (arith, w.in_default.ensures)))
     ]
 
 pub returns : goal.returns
 returns g c =
     let r = g.E.Ring in
-    all_summed r.algebra (map r.means c.args.list.now) r.means c.args.cells.now c.loop-cell.cell-index c.loop-cell.result (omega arith) c.loop-cell.invariant
+    all_summed r.algebra (map r.means c.args.list.now) r.means c.args.cells.now c.loop-cell.cell-index c.loop-cell.res (omega arith) c.loop-cell.invariant

@@ -1,5 +1,4 @@
-use Rattle.std.proofs.Common.{◌≡◌, ◌≤◌, false, get_or, sym, ap, ◌∙◌, subst, arith}
-use Rattle.matrix.specs.declared.Cell.{Cell}
+use Rattle.std.proofs.Common.{◌≡◌, false, get_or, sym, ◌∙◌, subst, arith}
 use Rattle.matrix.specs.Cells.{before}
 use Rattle.matrix.proofs.Placed.{passed_in}
 use Rattle.matrix.proofs.table.place.Goals as goal

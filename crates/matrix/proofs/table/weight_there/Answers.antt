@@ -1,4 +1,4 @@
-use Rattle.std.proofs.Common.{◌≡◌, sym, ◌∙◌}
+use Rattle.std.proofs.Common.{sym, ◌∙◌}
 use Rattle.matrix.proofs.Placed.{found_in, absent_in}
 use Rattle.matrix.proofs.table.weight_there.Goals as goal
 
