@@ -1,5 +1,5 @@
 -- When columns satisfy the rows of a matrix, and the paper's constraint system of that matrix.
-use Rattle.std.specs.Prelude.{◌≡◌, ℕ, ◌+◌, ◌*◌, ◌≤◌, List, [], ◌∷◌, ◌++◌, map, length}
+use Rattle.std.specs.Prelude.{◌≡◌, ℕ, ◌+◌, ◌*◌, ◌≤◌, List, ◌∷◌, ◌++◌, map, length}
 use Rattle.std.specs.List.{range_with_len}
 use Rattle.ring.specs.Algebra.{RingOn}
 use Rattle.matrix.specs.Cells.{weight_at, row_sum}

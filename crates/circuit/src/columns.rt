@@ -46,8 +46,8 @@ impl<'a, E: Ring> Witness<'a, E> {
         committed: usize,
         gates: usize,
     ) -> bool
-        ensures verdict { Decides result (Satisfied algebra (matrix means weights.now) committed gates (map means self.now.values.now) (map means self.now.left.now) (map means self.now.right.now) × (hadamard algebra (map means self.now.left.now) (map means self.now.right.now) ≡ map means self.now.out.now)) }
-        ensures paper { Decides result ((weights.now.width ≤ 1 + committed + 3 * gates) × Holds algebra (system_of algebra (matrix means weights.now) committed gates) (map means self.now.values.now) (map means self.now.left.now) (map means self.now.right.now) (map means self.now.out.now)) }
+        ensures verdict { Decides result (Satisfied E.algebra (matrix E.means weights.now) committed gates (map E.means self.now.values.now) (map E.means self.now.left.now) (map E.means self.now.right.now) × (hadamard E.algebra (map E.means self.now.left.now) (map E.means self.now.right.now) ≡ map E.means self.now.out.now)) }
+        ensures paper { Decides result ((weights.now.width ≤ 1 + committed + 3 * gates) × Holds E.algebra (system_of E.algebra (matrix E.means weights.now) committed gates) (map E.means self.now.values.now) (map E.means self.now.left.now) (map E.means self.now.right.now) (map E.means self.now.out.now)) }
     {
         let (left, right) = (self.left, self.right);
         let values = self.values;

@@ -9,7 +9,7 @@ use ring::Ring;
 
 // Column k of one, values, left, right, out, where out k is left k times right k; zero past them.
 fn column<E: Ring>(k: u32, values: &[E], left: &[E], right: &[E]) -> E
-    ensures { means result ≡ entry algebra (filled algebra (map means values.now) (map means left.now) (map means right.now)) k }
+    ensures { E.means result ≡ entry E.algebra (filled E.algebra (map E.means values.now) (map E.means left.now) (map E.means right.now)) k }
 {
     if k == 0 {
         return E::one();
@@ -36,7 +36,7 @@ fn column<E: Ring>(k: u32, values: &[E], left: &[E], right: &[E]) -> E
 // Whether every row's sum is zero, in one pass over cells in order.
 pub fn rows_vanish<E: Ring>(cells: &[Cell<E>], values: &[E], left: &[E], right: &[E]) -> bool
     requires { in_order cells.now ≡ true }
-    ensures { Decides result ((i : ℕ) → row_sum algebra (filled algebra (map means values.now) (map means left.now) (map means right.now)) i (meant means cells.now) ≡ algebra.nought) }
+    ensures { Decides result ((i : ℕ) → row_sum E.algebra (filled E.algebra (map E.means values.now) (map E.means left.now) (map E.means right.now)) i (meant E.means cells.now) ≡ E.algebra.nought) }
 {
     let zero = E::zero();
     let mut sum = zero;
@@ -59,7 +59,7 @@ pub fn rows_vanish<E: Ring>(cells: &[Cell<E>], values: &[E], left: &[E], right: 
 pub fn products_hold<E: Ring>(left: &[E], right: &[E], out: &[E]) -> bool
     requires paired { length left.now ≡ length right.now }
     requires gated { length left.now ≡ length out.now }
-    ensures { Decides result (hadamard algebra (map means left.now) (map means right.now) ≡ map means out.now) }
+    ensures { Decides result (hadamard E.algebra (map E.means left.now) (map E.means right.now) ≡ map E.means out.now) }
 {
     for k in 0..out.len() {
         if !out[k].equal(left[k].multiply(right[k])) {

@@ -36,8 +36,8 @@ impl Circuit {
         left: &[E],
         right: &[E],
     ) -> bool
-        ensures verdict { Decides result (Satisfied algebra (matrix means weights.now) committed gates (map means values.now) (map means left.now) (map means right.now)) }
-        ensures paper { Decides result ((weights.now.width ≤ 1 + committed + 3 * gates) × Holds algebra (system_of algebra (matrix means weights.now) committed gates) (map means values.now) (map means left.now) (map means right.now) (hadamard algebra (map means left.now) (map means right.now))) }
+        ensures verdict { Decides result (Satisfied E.algebra (matrix E.means weights.now) committed gates (map E.means values.now) (map E.means left.now) (map E.means right.now)) }
+        ensures paper { Decides result ((weights.now.width ≤ 1 + committed + 3 * gates) × Holds E.algebra (system_of E.algebra (matrix E.means weights.now) committed gates) (map E.means values.now) (map E.means left.now) (map E.means right.now) (hadamard E.algebra (map E.means left.now) (map E.means right.now))) }
     {
         if values.len() != committed || left.len() != gates || right.len() != gates {
             return false;

@@ -32,8 +32,8 @@ returns-then-not-fits g c = record {
   paper = (λ no'. absurd (false≢true no'), λ s. absurd (both_ways _ c.if-not-fits.true (c.fits.ensures.1 (omega (arith, s.0)))));
 }
 
-pub rows-vanish-requires : goal.rows-vanish-requires
-rows-vanish-requires g c = ap in_order c.cells.ensures ∙ c.args.weights.now.ordered
+pub rows_vanish-requires : goal.rows_vanish-requires
+rows_vanish-requires g c = ap in_order c.cells.ensures ∙ c.args.weights.now.ordered
 
 pub returns : goal.returns
 returns g c =
@@ -45,17 +45,17 @@ returns g c =
     let ls = map r.means a.left.now in
     let rs = map r.means a.right.now in
     let Vanish : List (Cell _) → Type 0 = λ cs. (i : ℕ) → row_sum R (filled R vs ls rs) i (meant r.means cs) ≡ R.nought in
-    let says : Decides c.rows-vanish.result (Satisfied R (matrix r.means m) a.committed a.gates vs ls rs) = (
+    let says : Decides c.rows_vanish.result (Satisfied R (matrix r.means m) a.committed a.gates vs ls rs) = (
       λ y. record {
         v_size = length-map a.values.now r.means ∙ c.if-values-committed.false;
         left_size = length-map a.left.now r.means ∙ c.if-left-gates.false;
         right_size = length-map a.right.now r.means ∙ c.if-right-gates.false;
         fits = omega (arith, c.fits.ensures.0 c.if-not-fits.false);
-        rows = subst Vanish c.cells.ensures (c.rows-vanish.ensures.0 y);
+        rows = subst Vanish c.cells.ensures (c.rows_vanish.ensures.0 y);
       },
-      λ s. c.rows-vanish.ensures.1 (subst Vanish (sym c.cells.ensures) s.rows),
+      λ s. c.rows_vanish.ensures.1 (subst Vanish (sym c.cells.ensures) s.rows),
     ) in
     record {
       verdict = says;
-      paper = decides_filled R (matrix r.means m) a.committed a.gates vs ls rs (ordered_cells r.means m) (covered_cells r.means m) c.rows-vanish.result says;
+      paper = decides_filled R (matrix r.means m) a.committed a.gates vs ls rs (ordered_cells r.means m) (covered_cells r.means m) c.rows_vanish.result says;
     }

@@ -1,4 +1,4 @@
-use Rattle.std.proofs.Common.{◌≡◌, sym, ◌∙◌, arith}
+use Rattle.std.proofs.Common.{◌∙◌, arith}
 use Rattle.circuit.proofs.Filled.{in_values, in_left, in_right, in_out, past_all}
 use Rattle.circuit.proofs.rows.column.Goals as goal
 

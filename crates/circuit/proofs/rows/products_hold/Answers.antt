@@ -1,4 +1,4 @@
-use Rattle.std.proofs.Common.{◌≡◌, sym, refl, ◌∙◌, arith}
+use Rattle.std.proofs.Common.{sym, refl, ◌∙◌, arith}
 use Rattle.std.proofs.lemmas.Bool.{both_ways, false≢true}
 use Rattle.circuit.proofs.Filled.{hadamard_is, hadamard_at}
 use Rattle.circuit.proofs.rows.products_hold.Goals as goal
