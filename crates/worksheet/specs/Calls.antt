@@ -1,5 +1,5 @@
 -- What each accepted builder call appends to a worksheet, and what it answers.
-use Rattle.std.specs.Prelude.{◌≡◌, ℕ, suc, List, [], ◌∷◌, ◌++◌, length, Some, None, Option, slice_index_or}
+use Rattle.std.specs.Prelude.{ℕ, suc, [], ◌∷◌, ◌++◌, length, Some, None, Option, slice_index_or}
 use Rattle.ring.specs.Algebra.{RingOn, FieldOf}
 use Rattle.worksheet.specs.declared.CircuitIdx.{CircuitIdx}
 use Rattle.worksheet.specs.declared.CircuitIdx.TheVariants.{Constant, Witness, Node}

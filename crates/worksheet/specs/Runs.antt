@@ -1,5 +1,5 @@
 -- Runs of builder calls: capacities, refusals, answers, and a prover's values.
-use Rattle.std.specs.Prelude.{◌≡◌, ℕ, Bool, true, false, cond, not, ◌&&◌, List, [], ◌∷◌, ◌++◌, map, length, drop, Some, None, Option, ◌≢◌, nat_lt, slice_index_or}
+use Rattle.std.specs.Prelude.{◌≡◌, ℕ, Bool, true, false, cond, not, ◌&&◌, List, [], ◌∷◌, ◌++◌, length, drop, Some, None, Option, ◌≢◌, nat_lt, slice_index_or}
 use Rattle.refusal.specs.Outcome.{Outcome, accepted, refused}
 use Rattle.ring.specs.Algebra.{RingOn, FieldOf}
 use Rattle.worksheet.specs.declared.CircuitIdx.{CircuitIdx}

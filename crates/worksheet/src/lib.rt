@@ -39,7 +39,7 @@ pub struct Counts {
 
 // The law on runs of builder calls, over the ring E.
 pub fn runs_are_lawful<E: Ring>() -> bool
-    ensures law { LawOfRuns algebra }
+    ensures law { LawOfRuns E.algebra }
     ensures says { result ≡ true }
 {
     true
