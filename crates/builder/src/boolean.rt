@@ -17,7 +17,7 @@ use worksheet::{CircuitIdx, CircuitNode, Var};
 impl<E: Ring> BoolVar<E> {
     // Native one or zero.
     pub fn constant(value: bool) -> BoolVar<E>
-        ensures { var_means means result.var ≡ Native (bit algebra value) }
+        ensures { var_means E.means result.var ≡ Native (bit E.algebra value) }
     {
         let x = if value { E::one() } else { E::zero() };
         BoolVar {
@@ -53,7 +53,7 @@ impl Builder {
         assertions: &mut [(CircuitIdx, CircuitIdx)],
         request: BoolRequest<E>,
     ) -> Result<BoolVar<E>, Refusal>
-        ensures called { Of algebra means (request_of request) (λ c. Called algebra means self.old.capacity self.old.counts self.new.counts constants.old constants.new nodes.old nodes.new assertions.old assertions.new c (outcome (λ v. shown algebra means (request_of request) (var_means means v.var)) result)) }
+        ensures called { Of E.algebra E.means (request_of request) (λ c. Called E.algebra E.means self.old.capacity self.old.counts self.new.counts constants.old constants.new nodes.old nodes.new assertions.old assertions.new c (outcome (λ v. shown E.algebra E.means (request_of request) (var_means E.means v.var)) result)) }
         ensures capacity { self.new.capacity ≡ self.old.capacity }
         ensures grows { Within self.old.counts self.new.counts }
     {

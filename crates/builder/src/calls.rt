@@ -22,7 +22,7 @@ impl Builder {
         assertions: &mut [(CircuitIdx, CircuitIdx)],
         request: Request<E>,
     ) -> Result<Var<E>, Refusal>
-        ensures called { Of algebra means request (λ c. Called algebra means self.old.capacity self.old.counts self.new.counts constants.old constants.new nodes.old nodes.new assertions.old assertions.new c (outcome (λ v. shown algebra means request (var_means means v)) result)) }
+        ensures called { Of E.algebra E.means request (λ c. Called E.algebra E.means self.old.capacity self.old.counts self.new.counts constants.old constants.new nodes.old nodes.new assertions.old assertions.new c (outcome (λ v. shown E.algebra E.means request (var_means E.means v)) result)) }
         ensures capacity { self.new.capacity ≡ self.old.capacity }
         ensures grows { Within self.old.counts self.new.counts }
     {

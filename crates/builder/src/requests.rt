@@ -36,7 +36,7 @@ pub fn cost_of<E: Copy>(request: Request<E>) -> Cost
 
 // Whether two natives that a request asserts equal differ.
 pub fn clashes<E: Ring>(request: Request<E>) -> bool
-    ensures { Clash algebra means request result }
+    ensures { Clash E.algebra E.means request result }
 {
     match request {
         Request::AssertEqual(Var::Native(x), Var::Native(y)) => !x.equal(y),
@@ -50,7 +50,7 @@ impl<'a, E: Ring> Tables<'a, E> {
     pub(super) fn make(&mut self, request: Request<E>) -> Var<E>
         requires room { Room self.old (request_cost request).counts }
         requires operands { AllThere self.old.counts (vars request) }
-        ensures { Wrote means self.old self.new (request_cost request) (performed algebra means (sheet_of means self.old) request) result }
+        ensures { Wrote E.means self.old self.new (request_cost request) (performed E.algebra E.means (sheet_of E.means self.old) request) result }
     {
         match request {
             Request::Constant(x) => Var::Circuit(self.push_constant(x)),

@@ -9,4 +9,4 @@ pub returns : goal.returns
 returns g c =
     let r = g.E.Ring in
     let was = c.args.self.now in
-    grew_id_on r.means was c.push-constant-first.new.self c.push_assertion.new.self constant_cost (counts 0 0 0 1) (push_constant (sheet_of r.means was) (r.means c.args.x)) (λ S j. push_assertion S j c.args.i) _ _ c.push-constant-first.ensures refl c.push_assertion.ensures
+    grew_id_on r.means was c.push_constant-first.new.self c.push_assertion.new.self constant_cost (counts 0 0 0 1) (push_constant (sheet_of r.means was) (r.means c.args.x)) (λ S j. push_assertion S j c.args.i) _ _ c.push_constant-first.ensures refl c.push_assertion.ensures

@@ -15,8 +15,8 @@ returns g c =
     let was = c.args.self.now in
     let q = c.push_witness.ensures in
     let mid = c.push_witness.new.self in
-    let is = c.assert-equal.new.self in
+    let is = c.assert_equal.new.self in
     let p = operate r.algebra times_op (push_witness (sheet_of r.means was)).0 (push_witness (sheet_of r.means was)).1 y in
     let product = wrote_on r.means was mid c.operate-product.new.self witness_cost (λ k. operate_cost k (kind_of c.args.b)) (push_witness (sheet_of r.means was)) (λ S v. operate r.algebra times_op S v y) (Circuit c.push_witness.result) c.operate-product.result q c.operate-product.ensures in
-    let grew = grew_after r.means was c.operate-product.new.self is (after (counts 0 1 0 0) (operate_cost witness_cost.kind (kind_of c.args.b))) (λ j. assert_cost j (kind_of c.args.a)) p (λ S v. asserted S v x) _ product c.assert-equal.ensures in
+    let grew = grew_after r.means was c.operate-product.new.self is (after (counts 0 1 0 0) (operate_cost witness_cost.kind (kind_of c.args.b))) (λ j. assert_cost j (kind_of c.args.a)) p (λ S v. asserted S v x) _ product c.assert_equal.ensures in
     record { grew = grew; answer = q.answer; kind = q.kind; there = subst (ThereId is.counts.constants) (sym (same_id c.push_witness.result (Witness was.counts.witnesses) q.answer)) tt }

@@ -13,7 +13,7 @@ pub returns : goal.returns
 returns g c =
     let r = g.E.Ring in
     let was = c.args.self.now in
-    let mid = c.push-constant-minus-one.new.self in
+    let mid = c.push_constant-minus_one.new.self in
     let minus = c.negate.ensures ∙ ap r.algebra.minus c.one.ensures in
-    let first = subst (λ (x : r.Member). Wrote r.means was mid constant_cost (push_constant (sheet_of r.means was) x) (Circuit c.push-constant-minus-one.result)) minus c.push-constant-minus-one.ensures in
+    let first = subst (λ (x : r.Member). Wrote r.means was mid constant_cost (push_constant (sheet_of r.means was) x) (Circuit c.push_constant-minus_one.result)) minus c.push_constant-minus_one.ensures in
     wrote_id_on r.means was mid c.push_node.new.self constant_cost (λ _. node_cost) (push_constant (sheet_of r.means was) (r.algebra.minus r.algebra.unit)) (λ S j. push_node S (Mul j c.args.i)) _ _ _ first refl c.push_node.ensures
