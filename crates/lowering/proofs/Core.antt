@@ -1,5 +1,5 @@
 -- What the rows of a finished lowering say of the columns, and what the columns say of the values.
-use Rattle.std.proofs.Common.{◌≡◌, ℕ, zero, suc, ◌<◌, false, ◌⊎◌, List, length, Some, None, Option, sym, refl, ap, ◌∙◌, subst, ap₂, inl, inr, arith}
+use Rattle.std.proofs.Common.{◌≡◌, ℕ, zero, suc, ◌<◌, false, List, length, Some, None, Option, sym, refl, ap, ◌∙◌, subst, ap₂, inl, inr, arith}
 use Rattle.ring.specs.Algebra.{RingOn}
 use Rattle.matrix.specs.Cells.{entry}
 use Rattle.worksheet.specs.declared.CircuitIdx.{CircuitIdx}

@@ -1,11 +1,11 @@
 -- The worked figures, by computation and by the law.
-use Rattle.std.proofs.Common.{◌≡◌, ℕ, zero, suc, ◌+◌, ◌*◌, ◌<◌, Bool, false, cond, not, List, [], ◌∷◌, map, Some, None, sym, refl, ap, ◌∙◌, inl, inr, arith}
+use Rattle.std.proofs.Common.{◌≡◌, ℕ, zero, suc, ◌+◌, ◌*◌, Bool, false, cond, not, List, [], ◌∷◌, map, Some, None, sym, refl, ap, ◌∙◌, inl, inr, arith}
 use Rattle.std.proofs.lemmas.Bool.{cases_Bool}
 use Rattle.refusal.specs.Outcome.{refused}
 use Rattle.ring.specs.Algebra.{FieldOf}
 use Rattle.ring.specs.Modular.{same_class}
 use Rattle.ring.proofs.Laws.{times_nought}
-use Rattle.worksheet.specs.declared.CircuitIdx.TheVariants.{Witness, Node}
+use Rattle.worksheet.specs.declared.CircuitIdx.TheVariants.{Witness}
 use Rattle.worksheet.specs.declared.Var.TheVariants.{Native, Circuit}
 use Rattle.worksheet.specs.Sheet.{Holds}
 use Rattle.worksheet.specs.Runs.{prover, Decided, witness, multiply, assert_equal, opened, step_by, run, values_of}

@@ -1,5 +1,5 @@
 -- Lowering only adds, and each addition keeps what is explained.
-use Rattle.std.proofs.Common.{◌≡◌, ℕ, suc, ◌+◌, ◌<◌, ◌≤◌, Bool, true, false, cond, ◌&&◌, ◌⊎◌, List, [], ◌∷◌, ◌++◌, length, get_or, Some, None, Option, sym, refl, ap, ◌∙◌, inl, inr, arith, length-append}
+use Rattle.std.proofs.Common.{◌≡◌, ℕ, ◌+◌, ◌<◌, ◌≤◌, Bool, true, false, cond, ◌&&◌, ◌⊎◌, List, [], ◌∷◌, ◌++◌, length, Some, None, Option, sym, refl, ap, ◌∙◌, inl, inr, arith, length-append}
 use Rattle.std.proofs.lemmas.List.{get_or_append_left, get_or_push}
 use Rattle.std.proofs.lemmas.Bool.{cond-true, cond-false, and_right, and_parts, cases_eq}
 use Rattle.ring.specs.Algebra.{RingOn}
@@ -13,7 +13,7 @@ use Rattle.lowering.specs.declared.Location.TheVariants.{One, Left, Right, Commi
 use Rattle.lowering.specs.declared.Gate.{Gate}
 use Rattle.lowering.specs.Committed.{first, same}
 use Rattle.lowering.specs.Combination.{Comb, single, at_one}
-use Rattle.lowering.specs.Lowering.{State, home, unplaced, put, add_gate, add_note, settle, gate_of}
+use Rattle.lowering.specs.Lowering.{State, home, unplaced, put, add_gate, add_note, settle}
 use Rattle.lowering.proofs.Positions.{same_true, same_self}
 use Rattle.lowering.proofs.Explains.{gate_at, note_at, Stood, as_worked, as_slot, Worked, IsNoted, IsGate, Explained, by_sum, by_left, by_right, by_gate, Placed, nowhere, on_left, on_right, on_slot, Noted, of_left, of_right, of_slot, Explains, Anchored}
 

@@ -1,21 +1,20 @@
 -- The law on lowered worksheets holds.
-use Rattle.std.proofs.Common.{◌≡◌, ℕ, zero, suc, ◌+◌, ◌*◌, ◌<◌, ◌≤◌, max, Bool, true, false, not, ◌&&◌, ◌||◌, ltb, ◌⊎◌, ◌↔◌, List, [], ◌∷◌, map, length, get_or, Some, None, Option, sym, refl, ap, ◌∙◌, subst, ap₂, inl, inr, arith}
-use native.Mathlib.Nat.{max-le, le-max_left}
+use Rattle.std.proofs.Common.{◌≡◌, ℕ, zero, suc, ◌+◌, ◌*◌, ◌<◌, ◌≤◌, true, false, not, ltb, ◌↔◌, List, [], ◌∷◌, map, length, get_or, Some, None, Option, sym, refl, ap, ◌∙◌, subst, ap₂, inl, inr, arith}
+use native.Mathlib.Nat.{max-le}
 use lib.ListN.{length-map}
 use Rattle.std.specs.List.{range_with_len}
 use Rattle.std.proofs.lemmas.List.FromFn.{length-map-range_with_len, get_or-map-range_with_len}
 use Rattle.std.proofs.lemmas.List.{get_or-map}
 use Rattle.std.proofs.lemmas.Bool.{and_parts, and_from, or_parts, not-false, both_ways, cases_eq, lt-ltb}
-use Rattle.refusal.specs.Outcome.{Outcome, accepted, refused}
+use Rattle.refusal.specs.Outcome.{Outcome, accepted}
 use Rattle.ring.specs.Algebra.{RingOn}
 use Rattle.matrix.specs.Cells.{entry}
 use Rattle.matrix.specs.Matrix.{Matrix, raised}
 use Rattle.circuit.specs.Bulletproofs.{hadamard}
-use Rattle.circuit.specs.Verdict.{filled, Satisfied}
 use Rattle.worksheet.specs.declared.CircuitIdx.{CircuitIdx}
-use Rattle.worksheet.specs.declared.CircuitIdx.TheVariants.{Constant, Witness, Node}
+use Rattle.worksheet.specs.declared.CircuitIdx.TheVariants.{Constant, Witness}
 use Rattle.worksheet.specs.Sheet.{Sheet, WellFormed, Present, Holds, value}
-use Rattle.worksheet.specs.Runs.{Role, prover, verifier, Call, erase, Capacities, Reply, Worksheet, run, values_of, present, refusal}
+use Rattle.worksheet.specs.Runs.{Role, prover, verifier, erase, Reply, Worksheet, run, values_of, present, refusal}
 use Rattle.worksheet.specs.Law.{Alike}
 use Rattle.worksheet.proofs.Built.{is_present}
 use Rattle.worksheet.proofs.Stepping.{clear}
@@ -25,9 +24,8 @@ use Rattle.lowering.specs.declared.Location.TheVariants.{One, Left, Right, Outpu
 use Rattle.lowering.specs.declared.Gate.{Gate}
 use Rattle.lowering.specs.Committed.{entry_at}
 use Rattle.lowering.specs.Lowering.{State, homeless, gate_of, finished}
-use Rattle.lowering.specs.Rows.{matrix_of}
 use Rattle.lowering.specs.Outcome.{Lengths, Lowered, made, all_present, some_homeless, lower_causes, outcome_by, lower}
-use Rattle.lowering.specs.Columns.{Columns, value_or_zero, out_of, written, at_place, read, there, all_there, Sized, ReadsBack, absent, missized, unsatisfied, reads}
+use Rattle.lowering.specs.Columns.{Columns, value_or_zero, out_of, written, at_place, read, there, all_there, ReadsBack, absent, missized, unsatisfied, reads}
 use Rattle.lowering.specs.Law.{AlikeLowered, Satisfies, Faithful}
 use Rattle.lowering.proofs.Explains.{gate_at, Complete}
 use Rattle.lowering.proofs.Walk.{complete}

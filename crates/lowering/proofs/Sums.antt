@@ -1,11 +1,11 @@
 -- What the laws of a ring give of the sum of a combination, over any values of the places.
-use Rattle.std.proofs.Common.{◌≡◌, ℕ, Bool, true, false, cond, eqb, ltb, List, [], ◌∷◌, Ordering, Less, Equal, Greater, sym, refl, ap, ◌∙◌, ap₂, arith}
+use Rattle.std.proofs.Common.{◌≡◌, ℕ, Bool, true, false, cond, eqb, ltb, [], ◌∷◌, Ordering, Less, Equal, Greater, sym, refl, ap, ◌∙◌, ap₂, arith}
 use Rattle.std.proofs.lemmas.Bool.Decides.{nat_tests}
 use Rattle.ring.specs.Algebra.{RingOn}
 use Rattle.ring.proofs.Laws.{nought_plus, plus_left_comm, plus_swap, plus_times, minus_nought, minus_plus_distributes, minus_times, times_nought}
 use Rattle.lowering.specs.declared.Location.{Location}
 use Rattle.lowering.specs.declared.Location.TheVariants.{One, Witness, Left, Right, Output, Committed}
-use Rattle.lowering.specs.Combination.{Comb, term, kind_of, number_of, then, order, single, at_one, scale, opposite, choose, merge}
+use Rattle.lowering.specs.Combination.{Comb, kind_of, number_of, then, order, single, at_one, scale, opposite, choose, merge}
 
 abbrev of_number : ℕ → ℕ → Location
 of_number k n = cond (eqb k 0) One (cond (eqb k 1) (Witness n) (cond (eqb k 2) (Left n) (cond (eqb k 3) (Right n) (cond (eqb k 4) (Output n) (Committed n)))))

@@ -1,5 +1,5 @@
 -- The walk, and all of lowering, keep what is explained.
-use Rattle.std.proofs.Common.{◌≡◌, ℕ, zero, suc, ◌+◌, ◌<◌, ◌≤◌, Bool, true, false, cond, ◌⊎◌, List, [], ◌∷◌, length, get_or, Some, None, Option, sym, refl, ap, ◌∙◌, subst, inl, inr, arith}
+use Rattle.std.proofs.Common.{◌≡◌, ℕ, zero, suc, ◌+◌, ◌<◌, ◌≤◌, true, false, List, [], ◌∷◌, length, get_or, Some, None, Option, sym, refl, ap, ◌∙◌, subst, inl, inr, arith}
 use Rattle.std.proofs.lemmas.Bool.{eqb-true, cond_both}
 use Rattle.ring.specs.Algebra.{RingOn}
 use Rattle.worksheet.specs.declared.CircuitIdx.{CircuitIdx}
@@ -8,13 +8,11 @@ use Rattle.worksheet.specs.declared.CircuitNode.{CircuitNode}
 use Rattle.worksheet.specs.declared.CircuitNode.TheVariants.{Add, Mul}
 use Rattle.worksheet.specs.Sheet.{Sheet, WellFormed, Below, Present, node_at, assertion_at, left_of, right_of}
 use Rattle.worksheet.specs.Calls.{constant_of, element}
-use Rattle.lowering.specs.declared.Location.{Location}
 use Rattle.lowering.specs.declared.Location.TheVariants.{One, Left, Right, Output, Committed}
 use Rattle.lowering.specs.declared.Gate.{Gate}
 use Rattle.lowering.specs.Committed.{entry_at, first, at_position}
 use Rattle.lowering.specs.Combination.{Comb, single, scale, merge}
-use Rattle.lowering.specs.Lowering.{State, start, slot_or, comb_of, or_empty, unless, put, add_gate, add_note, settle, product, multiply, work, walk, walk_assertions, homeless, homeless_from, gate_of, house, anchor, anchor_first, walk_committed, after_assertions, housed, finished}
-use Rattle.lowering.proofs.Positions.{has_first}
+use Rattle.lowering.specs.Lowering.{State, start, slot_or, comb_of, or_empty, unless, put, add_gate, add_note, settle, product, multiply, work, walk, walk_assertions, homeless, homeless_from, gate_of, house, anchor, anchor_first, walk_committed, after_assertions, finished}
 use Rattle.lowering.proofs.Explains.{gate_at, Stood, as_worked, Worked, IsNoted, Explained, by_sum, by_left, by_right, by_gate, Placed, nowhere, on_left, on_right, on_slot, of_left, of_right, of_slot, Explains, Complete}
 use Rattle.lowering.proofs.Grows.{
   Grows,

@@ -7,11 +7,10 @@ use Rattle.ring.specs.Modular.{Class, class_of, modular}
 use Rattle.matrix.specs.Matrix.{Matrix, raised}
 use Rattle.circuit.specs.Verdict.{Satisfied}
 use Rattle.worksheet.specs.declared.CircuitIdx.{CircuitIdx}
-use Rattle.worksheet.specs.declared.CircuitIdx.TheVariants.{Constant, Witness, Node}
+use Rattle.worksheet.specs.declared.CircuitIdx.TheVariants.{Witness, Node}
 use Rattle.worksheet.specs.declared.Var.{Var}
 use Rattle.worksheet.specs.declared.Var.TheVariants.{Native, Circuit}
 use Rattle.worksheet.specs.Runs.{prover, Decided, Call, witness, add, multiply, divide, assert_equal, Capacities, Worksheet, run, values_of}
-use Rattle.lowering.specs.declared.Gate.{Gate}
 use Rattle.lowering.specs.Outcome.{Lengths, Lowered, made, lower}
 use Rattle.lowering.specs.Columns.{Columns, written}
 

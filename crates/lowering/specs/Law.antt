@@ -3,11 +3,11 @@ use Rattle.std.specs.Prelude.{◌≡◌, ℕ, ◌+◌, ◌*◌, ◌<◌, ◌≤�
 use Rattle.refusal.specs.Outcome.{Outcome, accepted}
 use Rattle.ring.specs.Algebra.{RingOn}
 use Rattle.matrix.specs.Cells.{entry}
-use Rattle.matrix.specs.Matrix.{Matrix, raised}
+use Rattle.matrix.specs.Matrix.{raised}
 use Rattle.circuit.specs.Bulletproofs.{hadamard}
 use Rattle.circuit.specs.Verdict.{Satisfied}
 use Rattle.worksheet.specs.declared.CircuitIdx.{CircuitIdx}
-use Rattle.worksheet.specs.Sheet.{Sheet, value, Holds}
+use Rattle.worksheet.specs.Sheet.{value, Holds}
 use Rattle.worksheet.specs.Runs.{Role, prover, verifier, Call, erase, SameCalls, Capacities, Reply, Worksheet, run, values_of}
 use Rattle.worksheet.specs.Law.{Alike}
 use Rattle.lowering.specs.Committed.{entry_at}

@@ -6,7 +6,7 @@ use ring::Ring;
 
 // Rows say what the worksheet says, and nothing of the values, over the ring E.
 pub fn lowering_is_faithful<E: Ring>() -> bool
-    ensures law { Faithful algebra }
+    ensures law { Faithful E.algebra }
     ensures says { result ≡ true }
 {
     true
