@@ -19,7 +19,7 @@ impl Open {
         assertions: &mut [(CircuitIdx, CircuitIdx)],
         x: E,
     ) -> Result<Var<E>, Refusal>
-        ensures { Made algebra means self.old.builder self.new.builder constants.old constants.new nodes.old nodes.new assertions.old assertions.new (constant_call (means x)) (outcome (λ v. Some (var_means means v)) result) }
+        ensures { Made E.algebra E.means self.old.builder self.new.builder constants.old constants.new nodes.old nodes.new assertions.old assertions.new (constant_call (E.means x)) (outcome (λ v. Some (var_means E.means v)) result) }
     {
         self.builder
             .call(constants, nodes, assertions, Request::Constant(x))
@@ -31,7 +31,7 @@ impl Open {
         nodes: &mut [CircuitNode],
         assertions: &mut [(CircuitIdx, CircuitIdx)],
     ) -> Result<Var<E>, Refusal>
-        ensures { Made algebra means self.old.builder self.new.builder constants.old constants.new nodes.old nodes.new assertions.old assertions.new (witness_call tt) (outcome (λ v. Some (var_means means v)) result) }
+        ensures { Made E.algebra E.means self.old.builder self.new.builder constants.old constants.new nodes.old nodes.new assertions.old assertions.new (witness_call tt) (outcome (λ v. Some (var_means E.means v)) result) }
     {
         self.builder
             .call(constants, nodes, assertions, Request::Witness)
@@ -45,7 +45,7 @@ impl Open {
         a: Var<E>,
         b: Var<E>,
     ) -> Result<Var<E>, Refusal>
-        ensures { Made algebra means self.old.builder self.new.builder constants.old constants.new nodes.old nodes.new assertions.old assertions.new (add_call (var_means means a) (var_means means b)) (outcome (λ v. Some (var_means means v)) result) }
+        ensures { Made E.algebra E.means self.old.builder self.new.builder constants.old constants.new nodes.old nodes.new assertions.old assertions.new (add_call (var_means E.means a) (var_means E.means b)) (outcome (λ v. Some (var_means E.means v)) result) }
     {
         self.builder
             .call(constants, nodes, assertions, Request::Add(a, b))
@@ -59,7 +59,7 @@ impl Open {
         a: Var<E>,
         b: Var<E>,
     ) -> Result<Var<E>, Refusal>
-        ensures { Made algebra means self.old.builder self.new.builder constants.old constants.new nodes.old nodes.new assertions.old assertions.new (multiply_call (var_means means a) (var_means means b)) (outcome (λ v. Some (var_means means v)) result) }
+        ensures { Made E.algebra E.means self.old.builder self.new.builder constants.old constants.new nodes.old nodes.new assertions.old assertions.new (multiply_call (var_means E.means a) (var_means E.means b)) (outcome (λ v. Some (var_means E.means v)) result) }
     {
         self.builder
             .call(constants, nodes, assertions, Request::Multiply(a, b))
@@ -72,7 +72,7 @@ impl Open {
         assertions: &mut [(CircuitIdx, CircuitIdx)],
         a: Var<E>,
     ) -> Result<Var<E>, Refusal>
-        ensures { Made algebra means self.old.builder self.new.builder constants.old constants.new nodes.old nodes.new assertions.old assertions.new (negate_call (var_means means a)) (outcome (λ v. Some (var_means means v)) result) }
+        ensures { Made E.algebra E.means self.old.builder self.new.builder constants.old constants.new nodes.old nodes.new assertions.old assertions.new (negate_call (var_means E.means a)) (outcome (λ v. Some (var_means E.means v)) result) }
     {
         self.builder
             .call(constants, nodes, assertions, Request::Negate(a))
@@ -86,7 +86,7 @@ impl Open {
         a: Var<E>,
         b: Var<E>,
     ) -> Result<Var<E>, Refusal>
-        ensures { Made algebra means self.old.builder self.new.builder constants.old constants.new nodes.old nodes.new assertions.old assertions.new (subtract_call (var_means means a) (var_means means b)) (outcome (λ v. Some (var_means means v)) result) }
+        ensures { Made E.algebra E.means self.old.builder self.new.builder constants.old constants.new nodes.old nodes.new assertions.old assertions.new (subtract_call (var_means E.means a) (var_means E.means b)) (outcome (λ v. Some (var_means E.means v)) result) }
     {
         self.builder
             .call(constants, nodes, assertions, Request::Subtract(a, b))
@@ -100,7 +100,7 @@ impl Open {
         a: Var<E>,
         b: Var<E>,
     ) -> Result<(), Refusal>
-        ensures { (d : Settled (var_means means a) (var_means means b)) × Made algebra means self.old.builder self.new.builder constants.old constants.new nodes.old nodes.new assertions.old assertions.new (assert_call (var_means means a) (var_means means b) d) (outcome (λ _. None) result) }
+        ensures { (d : Settled (var_means E.means a) (var_means E.means b)) × Made E.algebra E.means self.old.builder self.new.builder constants.old constants.new nodes.old nodes.new assertions.old assertions.new (assert_call (var_means E.means a) (var_means E.means b) d) (outcome (λ _. None) result) }
     {
         match self
             .builder

@@ -18,7 +18,7 @@ impl Open {
         nodes: &mut [CircuitNode],
         assertions: &mut [(CircuitIdx, CircuitIdx)],
     ) -> Result<BoolVar<E>, Refusal>
-        ensures { Made algebra means self.old.builder self.new.builder constants.old constants.new nodes.old nodes.new assertions.old assertions.new (boolean_witness_call tt) (outcome (λ v. Some (var_means means v.var)) result) }
+        ensures { Made E.algebra E.means self.old.builder self.new.builder constants.old constants.new nodes.old nodes.new assertions.old assertions.new (boolean_witness_call tt) (outcome (λ v. Some (var_means E.means v.var)) result) }
     {
         self.builder
             .boolean(constants, nodes, assertions, BoolRequest::Witness)
@@ -32,7 +32,7 @@ impl Open {
         assertions: &mut [(CircuitIdx, CircuitIdx)],
         a: Var<E>,
     ) -> Result<BoolVar<E>, Refusal>
-        ensures { (d : Settled (native_square algebra (var_means means a)) (var_means means a)) × Made algebra means self.old.builder self.new.builder constants.old constants.new nodes.old nodes.new assertions.old assertions.new (boolean_assert_call (var_means means a) d) (outcome (λ v. Some (var_means means v.var)) result) }
+        ensures { (d : Settled (native_square E.algebra (var_means E.means a)) (var_means E.means a)) × Made E.algebra E.means self.old.builder self.new.builder constants.old constants.new nodes.old nodes.new assertions.old assertions.new (boolean_assert_call (var_means E.means a) d) (outcome (λ v. Some (var_means E.means v.var)) result) }
     {
         self.builder
             .boolean(constants, nodes, assertions, BoolRequest::Assert(a))
@@ -45,7 +45,7 @@ impl Open {
         assertions: &mut [(CircuitIdx, CircuitIdx)],
         a: BoolVar<E>,
     ) -> Result<BoolVar<E>, Refusal>
-        ensures { Made algebra means self.old.builder self.new.builder constants.old constants.new nodes.old nodes.new assertions.old assertions.new (boolean_not_call (var_means means a.var)) (outcome (λ v. Some (var_means means v.var)) result) }
+        ensures { Made E.algebra E.means self.old.builder self.new.builder constants.old constants.new nodes.old nodes.new assertions.old assertions.new (boolean_not_call (var_means E.means a.var)) (outcome (λ v. Some (var_means E.means v.var)) result) }
     {
         self.builder
             .boolean(constants, nodes, assertions, BoolRequest::Not(a))
@@ -59,7 +59,7 @@ impl Open {
         a: BoolVar<E>,
         b: BoolVar<E>,
     ) -> Result<BoolVar<E>, Refusal>
-        ensures { Made algebra means self.old.builder self.new.builder constants.old constants.new nodes.old nodes.new assertions.old assertions.new (boolean_and_call (var_means means a.var) (var_means means b.var)) (outcome (λ v. Some (var_means means v.var)) result) }
+        ensures { Made E.algebra E.means self.old.builder self.new.builder constants.old constants.new nodes.old nodes.new assertions.old assertions.new (boolean_and_call (var_means E.means a.var) (var_means E.means b.var)) (outcome (λ v. Some (var_means E.means v.var)) result) }
     {
         self.builder
             .boolean(constants, nodes, assertions, BoolRequest::And(a, b))
@@ -73,7 +73,7 @@ impl Open {
         a: BoolVar<E>,
         b: BoolVar<E>,
     ) -> Result<BoolVar<E>, Refusal>
-        ensures { Made algebra means self.old.builder self.new.builder constants.old constants.new nodes.old nodes.new assertions.old assertions.new (boolean_or_call (var_means means a.var) (var_means means b.var)) (outcome (λ v. Some (var_means means v.var)) result) }
+        ensures { Made E.algebra E.means self.old.builder self.new.builder constants.old constants.new nodes.old nodes.new assertions.old assertions.new (boolean_or_call (var_means E.means a.var) (var_means E.means b.var)) (outcome (λ v. Some (var_means E.means v.var)) result) }
     {
         self.builder
             .boolean(constants, nodes, assertions, BoolRequest::Or(a, b))
@@ -87,7 +87,7 @@ impl Open {
         a: BoolVar<E>,
         b: BoolVar<E>,
     ) -> Result<(), Refusal>
-        ensures { (d : Settled (var_means means a.var) (var_means means b.var)) × Made algebra means self.old.builder self.new.builder constants.old constants.new nodes.old nodes.new assertions.old assertions.new (assert_call (var_means means a.var) (var_means means b.var) d) (outcome (λ _. None) result) }
+        ensures { (d : Settled (var_means E.means a.var) (var_means E.means b.var)) × Made E.algebra E.means self.old.builder self.new.builder constants.old constants.new nodes.old nodes.new assertions.old assertions.new (assert_call (var_means E.means a.var) (var_means E.means b.var) d) (outcome (λ _. None) result) }
     {
         self.assert_equal(constants, nodes, assertions, a.var(), b.var())
     }
@@ -102,7 +102,7 @@ impl Open {
         t: Var<E>,
         f: Var<E>,
     ) -> Result<Var<E>, Refusal>
-        ensures { Made algebra means self.old.builder self.new.builder constants.old constants.new nodes.old nodes.new assertions.old assertions.new (select_call (var_means means b.var) (var_means means t) (var_means means f)) (outcome (λ v. Some (var_means means v)) result) }
+        ensures { Made E.algebra E.means self.old.builder self.new.builder constants.old constants.new nodes.old nodes.new assertions.old assertions.new (select_call (var_means E.means b.var) (var_means E.means t) (var_means E.means f)) (outcome (λ v. Some (var_means E.means v)) result) }
     {
         self.builder.call(constants, nodes, assertions, Request::Select(b.var(), t, f))
     }

@@ -21,7 +21,7 @@ impl Open {
         a: Var<E>,
         b: Var<E>,
     ) -> Result<Var<E>, Refusal>
-        ensures { Divided E.Ring.algebra (var_means E.Ring.means a) (var_means E.Ring.means b) (λ F. Made E.Ring.algebra E.Ring.means self.old.builder self.new.builder constants.old constants.new nodes.old nodes.new assertions.old assertions.new (divide_call F (var_means E.Ring.means a) (var_means E.Ring.means b)) (outcome (λ v. Some (var_means E.Ring.means v)) result)) }
+        ensures { Divided E.algebra (var_means E.means a) (var_means E.means b) (λ F. Made E.algebra E.means self.old.builder self.new.builder constants.old constants.new nodes.old nodes.new assertions.old assertions.new (divide_call F (var_means E.means a) (var_means E.means b)) (outcome (λ v. Some (var_means E.means v)) result)) }
     {
         match (a, b) {
             (Var::Native(x), Var::Native(y)) => {
@@ -59,7 +59,7 @@ impl Open {
         assertions: &mut [(CircuitIdx, CircuitIdx)],
         a: Var<E>,
     ) -> Result<Var<E>, Refusal>
-        ensures { Inverted E.Ring.algebra (var_means E.Ring.means a) (λ F. Made E.Ring.algebra E.Ring.means self.old.builder self.new.builder constants.old constants.new nodes.old nodes.new assertions.old assertions.new (invert_call F (var_means E.Ring.means a)) (outcome (λ v. Some (var_means E.Ring.means v)) result)) }
+        ensures { Inverted E.algebra (var_means E.means a) (λ F. Made E.algebra E.means self.old.builder self.new.builder constants.old constants.new nodes.old nodes.new assertions.old assertions.new (invert_call F (var_means E.means a)) (outcome (λ v. Some (var_means E.means v)) result)) }
     {
         match a {
             Var::Native(x) => self

@@ -1,4 +1,4 @@
-use Rattle.std.proofs.Common.{◌≡◌, [], ◌∷◌, Some, refl, ap, ◌∙◌}
+use Rattle.std.proofs.Common.{[], ◌∷◌, Some, refl, ap, ◌∙◌}
 use Rattle.worksheet.specs.declared.Var.TheVariants.{Native}
 use Rattle.worksheet.specs.Runs.{divide}
 use Rattle.builder.specs.Tables.{sheet_in}
