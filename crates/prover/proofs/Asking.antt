@@ -1,10 +1,9 @@
 -- What holds of the verifier's call of a request holds of the prover's.
-use Rattle.std.proofs.Common.{◌≡◌, ℕ, List, [], ◌∷◌, sym, refl, ap, ◌∙◌, inl, inr}
+use Rattle.std.proofs.Common.{◌≡◌, List, [], ◌∷◌, sym, refl, ap, ◌∙◌, inl, inr}
 use Rattle.ring.specs.Algebra.{RingOn}
 use Rattle.worksheet.specs.declared.CircuitIdx.{CircuitIdx}
 use Rattle.worksheet.specs.declared.CircuitNode.{CircuitNode}
 use Rattle.worksheet.specs.declared.Counts.{Counts}
-use Rattle.worksheet.specs.declared.Var.{Var}
 use Rattle.worksheet.specs.declared.Var.TheVariants.{Native, Circuit}
 use Rattle.worksheet.specs.Calls.{var_means}
 use Rattle.worksheet.specs.Runs.{prover, verifier, Call, Reply, Worksheet, erase, step, fresh, assert_equal, boolean_assert, boolean_witness, witness, divide, invert}

@@ -1,14 +1,13 @@
 -- The assertions hold if each of those that are counted does.
-use Rattle.std.proofs.Common.{◌≡◌, ℕ, ◌<◌, min, List, map, length, get_or, take, sym, refl, ap, ◌∙◌, arith, length-take}
+use Rattle.std.proofs.Common.{◌≡◌, ℕ, ◌<◌, min, List, map, length, get_or, take, sym, ap, ◌∙◌, arith, length-take}
 use Rattle.std.proofs.lemmas.List.{get_or-take}
 use Rattle.ring.specs.Algebra.{RingOn}
 use Rattle.worksheet.specs.declared.CircuitIdx.{CircuitIdx}
 use Rattle.worksheet.specs.declared.CircuitIdx.TheVariants.{Constant}
-use Rattle.worksheet.specs.declared.CircuitNode.{CircuitNode}
 use Rattle.worksheet.specs.declared.Counts.{Counts}
 use Rattle.worksheet.specs.Runs.{look, values_of}
 use Rattle.worksheet.specs.Sheet.{Sheet, Holds}
-use Rattle.prover.specs.Book.{Book, book, sheet_of, worksheet_in, of_constants}
+use Rattle.prover.specs.Book.{Book, sheet_of, worksheet_in, of_constants}
 use Rattle.prover.proofs.Entries.{look_by}
 
 abbrev pub at : List (CircuitIdx × CircuitIdx) → ℕ → CircuitIdx × CircuitIdx

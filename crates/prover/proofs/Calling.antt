@@ -1,5 +1,5 @@
 -- A call whose structure is written, and then its values, is the step of its definition, and so is one that is refused.
-use Rattle.std.proofs.Common.{◌≡◌, ℕ, ◌+◌, ◌<◌, ◌≤◌, Bool, true, false, cond, ◌||◌, ltb, ◌⊎◌, List, [], ◌∷◌, ◌++◌, map, length, take, drop, set, Some, None, Option, sym, refl, ap, ◌∙◌, subst, inl, inr, arith}
+use Rattle.std.proofs.Common.{◌≡◌, ℕ, ◌+◌, ◌≤◌, true, false, cond, ltb, ◌⊎◌, List, [], ◌∷◌, ◌++◌, map, length, take, drop, set, Some, None, Option, sym, refl, ap, ◌∙◌, subst, inl, inr, arith}
 use Rattle.std.proofs.lemmas.List.{append-nil, length-take-le, take_more_set, map_push, drop-set-lt}
 use Rattle.std.proofs.lemmas.Bool.{or_parts, ltb-false, both_ways, cond-true, cond-false, le-ltb, lt-ltb, cases_lt}
 use Rattle.refusal.specs.Outcome.{accepted, refused}
@@ -10,7 +10,6 @@ use Rattle.worksheet.specs.declared.Counts.{Counts}
 use Rattle.worksheet.specs.declared.Var.{Var}
 use Rattle.worksheet.specs.Sheet.{Sheet}
 use Rattle.worksheet.specs.Calls.{Answered}
-use Rattle.worksheet.specs.Law.{Stepped}
 use Rattle.worksheet.specs.Runs.{
   prover,
   verifier,

@@ -19,7 +19,7 @@ use worksheet::{CircuitIdx, CircuitNode, Var};
 
 // One or zero.
 fn bit_of<E: Ring>(value: bool) -> E
-    ensures { means result ≡ bit algebra value }
+    ensures { E.means result ≡ bit E.algebra value }
 {
     if value { E::one() } else { E::zero() }
 }
@@ -36,7 +36,7 @@ impl Open {
         request: BoolRequest<E>,
         fresh: E,
     ) -> Result<BoolVar<E>, Refusal>
-        ensures called { Of algebra means (values_of algebra (worksheet_in means self.old.builder.counts (book constants.old nodes.old assertions.old values.old worked.old))) (means fresh) (request_of request) (λ c. Called algebra means self.old.builder.capacity self.old.builder.counts self.new.builder.counts (book constants.old nodes.old assertions.old values.old worked.old) (book constants.new nodes.new assertions.new values.new worked.new) c (outcome (λ v. shown algebra means (request_of request) (var_means means v.var)) result)) }
+        ensures called { Of E.algebra E.means (values_of E.algebra (worksheet_in E.means self.old.builder.counts (book constants.old nodes.old assertions.old values.old worked.old))) (E.means fresh) (request_of request) (λ c. Called E.algebra E.means self.old.builder.capacity self.old.builder.counts self.new.builder.counts (book constants.old nodes.old assertions.old values.old worked.old) (book constants.new nodes.new assertions.new values.new worked.new) c (outcome (λ v. shown E.algebra E.means (request_of request) (var_means E.means v.var)) result)) }
         ensures capacity { self.new.builder.capacity ≡ self.old.builder.capacity }
     {
         if is_short(
@@ -67,7 +67,7 @@ impl Open {
         worked: &mut [E],
         value: bool,
     ) -> Result<BoolVar<E>, Refusal>
-        ensures called { Called algebra means self.old.builder.capacity self.old.builder.counts self.new.builder.counts (book constants.old nodes.old assertions.old values.old worked.old) (book constants.new nodes.new assertions.new values.new worked.new) (boolean_witness value) (outcome (λ v. Some (var_means means v.var)) result) }
+        ensures called { Called E.algebra E.means self.old.builder.capacity self.old.builder.counts self.new.builder.counts (book constants.old nodes.old assertions.old values.old worked.old) (book constants.new nodes.new assertions.new values.new worked.new) (boolean_witness value) (outcome (λ v. Some (var_means E.means v.var)) result) }
         ensures capacity { self.new.builder.capacity ≡ self.old.builder.capacity }
     {
         let fresh = bit_of(value);
@@ -92,7 +92,7 @@ impl Open {
         worked: &mut [E],
         a: Var<E>,
     ) -> Result<BoolVar<E>, Refusal>
-        ensures called { (d : Settled (native_square algebra (var_means means a)) (var_means means a)) → Called algebra means self.old.builder.capacity self.old.builder.counts self.new.builder.counts (book constants.old nodes.old assertions.old values.old worked.old) (book constants.new nodes.new assertions.new values.new worked.new) (boolean_assert (var_means means a) d) (outcome (λ v. Some (var_means means v.var)) result) }
+        ensures called { (d : Settled (native_square E.algebra (var_means E.means a)) (var_means E.means a)) → Called E.algebra E.means self.old.builder.capacity self.old.builder.counts self.new.builder.counts (book constants.old nodes.old assertions.old values.old worked.old) (book constants.new nodes.new assertions.new values.new worked.new) (boolean_assert (var_means E.means a) d) (outcome (λ v. Some (var_means E.means v.var)) result) }
         ensures capacity { self.new.builder.capacity ≡ self.old.builder.capacity }
     {
         self.boolean(
@@ -115,7 +115,7 @@ impl Open {
         worked: &mut [E],
         a: BoolVar<E>,
     ) -> Result<BoolVar<E>, Refusal>
-        ensures called { Called algebra means self.old.builder.capacity self.old.builder.counts self.new.builder.counts (book constants.old nodes.old assertions.old values.old worked.old) (book constants.new nodes.new assertions.new values.new worked.new) (boolean_not (var_means means a.var)) (outcome (λ v. Some (var_means means v.var)) result) }
+        ensures called { Called E.algebra E.means self.old.builder.capacity self.old.builder.counts self.new.builder.counts (book constants.old nodes.old assertions.old values.old worked.old) (book constants.new nodes.new assertions.new values.new worked.new) (boolean_not (var_means E.means a.var)) (outcome (λ v. Some (var_means E.means v.var)) result) }
         ensures capacity { self.new.builder.capacity ≡ self.old.builder.capacity }
     {
         self.boolean(
@@ -139,7 +139,7 @@ impl Open {
         a: BoolVar<E>,
         b: BoolVar<E>,
     ) -> Result<BoolVar<E>, Refusal>
-        ensures called { Called algebra means self.old.builder.capacity self.old.builder.counts self.new.builder.counts (book constants.old nodes.old assertions.old values.old worked.old) (book constants.new nodes.new assertions.new values.new worked.new) (boolean_and (var_means means a.var) (var_means means b.var)) (outcome (λ v. Some (var_means means v.var)) result) }
+        ensures called { Called E.algebra E.means self.old.builder.capacity self.old.builder.counts self.new.builder.counts (book constants.old nodes.old assertions.old values.old worked.old) (book constants.new nodes.new assertions.new values.new worked.new) (boolean_and (var_means E.means a.var) (var_means E.means b.var)) (outcome (λ v. Some (var_means E.means v.var)) result) }
         ensures capacity { self.new.builder.capacity ≡ self.old.builder.capacity }
     {
         self.boolean(
@@ -163,7 +163,7 @@ impl Open {
         a: BoolVar<E>,
         b: BoolVar<E>,
     ) -> Result<BoolVar<E>, Refusal>
-        ensures called { Called algebra means self.old.builder.capacity self.old.builder.counts self.new.builder.counts (book constants.old nodes.old assertions.old values.old worked.old) (book constants.new nodes.new assertions.new values.new worked.new) (boolean_or (var_means means a.var) (var_means means b.var)) (outcome (λ v. Some (var_means means v.var)) result) }
+        ensures called { Called E.algebra E.means self.old.builder.capacity self.old.builder.counts self.new.builder.counts (book constants.old nodes.old assertions.old values.old worked.old) (book constants.new nodes.new assertions.new values.new worked.new) (boolean_or (var_means E.means a.var) (var_means E.means b.var)) (outcome (λ v. Some (var_means E.means v.var)) result) }
         ensures capacity { self.new.builder.capacity ≡ self.old.builder.capacity }
     {
         self.boolean(
@@ -187,7 +187,7 @@ impl Open {
         a: BoolVar<E>,
         b: BoolVar<E>,
     ) -> Result<(), Refusal>
-        ensures called { (d : Settled (var_means means a.var) (var_means means b.var)) → Called algebra means self.old.builder.capacity self.old.builder.counts self.new.builder.counts (book constants.old nodes.old assertions.old values.old worked.old) (book constants.new nodes.new assertions.new values.new worked.new) (assert_equal (var_means means a.var) (var_means means b.var) d) (outcome (λ _. None) result) }
+        ensures called { (d : Settled (var_means E.means a.var) (var_means E.means b.var)) → Called E.algebra E.means self.old.builder.capacity self.old.builder.counts self.new.builder.counts (book constants.old nodes.old assertions.old values.old worked.old) (book constants.new nodes.new assertions.new values.new worked.new) (assert_equal (var_means E.means a.var) (var_means E.means b.var) d) (outcome (λ _. None) result) }
         ensures capacity { self.new.builder.capacity ≡ self.old.builder.capacity }
     {
         self.assert_equal(
@@ -213,7 +213,7 @@ impl Open {
         t: Var<E>,
         f: Var<E>,
     ) -> Result<Var<E>, Refusal>
-        ensures called { Called algebra means self.old.builder.capacity self.old.builder.counts self.new.builder.counts (book constants.old nodes.old assertions.old values.old worked.old) (book constants.new nodes.new assertions.new values.new worked.new) (select (var_means means b.var) (var_means means t) (var_means means f)) (outcome (λ v. Some (var_means means v)) result) }
+        ensures called { Called E.algebra E.means self.old.builder.capacity self.old.builder.counts self.new.builder.counts (book constants.old nodes.old assertions.old values.old worked.old) (book constants.new nodes.new assertions.new values.new worked.new) (select (var_means E.means b.var) (var_means E.means t) (var_means E.means f)) (outcome (λ v. Some (var_means E.means v)) result) }
         ensures capacity { self.new.builder.capacity ≡ self.old.builder.capacity }
     {
         self.call(

@@ -46,7 +46,7 @@ impl Open {
         request: Request<E>,
         fresh: E,
     ) -> Result<Var<E>, Refusal>
-        ensures called { Of algebra means (values_of algebra (worksheet_in means self.old.builder.counts (book constants.old nodes.old assertions.old values.old worked.old))) (means fresh) request (λ c. Called algebra means self.old.builder.capacity self.old.builder.counts self.new.builder.counts (book constants.old nodes.old assertions.old values.old worked.old) (book constants.new nodes.new assertions.new values.new worked.new) c (outcome (λ v. shown algebra means request (var_means means v)) result)) }
+        ensures called { Of E.algebra E.means (values_of E.algebra (worksheet_in E.means self.old.builder.counts (book constants.old nodes.old assertions.old values.old worked.old))) (E.means fresh) request (λ c. Called E.algebra E.means self.old.builder.capacity self.old.builder.counts self.new.builder.counts (book constants.old nodes.old assertions.old values.old worked.old) (book constants.new nodes.new assertions.new values.new worked.new) c (outcome (λ v. shown E.algebra E.means request (var_means E.means v)) result)) }
         ensures capacity { self.new.builder.capacity ≡ self.old.builder.capacity }
     {
         if is_short(

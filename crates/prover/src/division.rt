@@ -21,7 +21,7 @@ use worksheet::{CircuitIdx, CircuitNode, Var};
 impl Open {
     // The value of a variable.
     fn value<E: Ring>(&self, constants: &[E], values: &[E], worked: &[E], v: Var<E>) -> E
-        ensures { means result ≡ worth (look algebra (of_constants (map means (take self.now.builder.counts.constants constants.now))) (map means (take self.now.builder.counts.witnesses values.now)) (map means (take self.now.builder.counts.nodes worked.now))) (var_means means v) }
+        ensures { E.means result ≡ worth (look E.algebra (of_constants (map E.means (take self.now.builder.counts.constants constants.now))) (map E.means (take self.now.builder.counts.witnesses values.now)) (map E.means (take self.now.builder.counts.nodes worked.now))) (var_means E.means v) }
     {
         match v {
             Var::Native(x) => x,
@@ -64,7 +64,7 @@ impl Open {
         a: Var<E>,
         i: CircuitIdx,
     ) -> Result<Var<E>, Refusal>
-        ensures called { (F : FieldOf E.Ring.algebra) × Called E.Ring.algebra E.Ring.means self.old.builder.capacity self.old.builder.counts self.new.builder.counts (book constants.old nodes.old assertions.old values.old worked.old) (book constants.new nodes.new assertions.new values.new worked.new) (divide F (var_means E.Ring.means a) (Circuit i)) (outcome (λ v. Some (var_means E.Ring.means v)) result) }
+        ensures called { (F : FieldOf E.algebra) × Called E.algebra E.means self.old.builder.capacity self.old.builder.counts self.new.builder.counts (book constants.old nodes.old assertions.old values.old worked.old) (book constants.new nodes.new assertions.new values.new worked.new) (divide F (var_means E.means a) (Circuit i)) (outcome (λ v. Some (var_means E.means v)) result) }
         ensures capacity { self.new.builder.capacity ≡ self.old.builder.capacity }
     {
         let x = self.value(constants, values, worked, a);
@@ -91,7 +91,7 @@ impl Open {
         i: CircuitIdx,
         y: E,
     ) -> Result<Var<E>, Refusal>
-        ensures called { (F : FieldOf E.Ring.algebra) × Called E.Ring.algebra E.Ring.means self.old.builder.capacity self.old.builder.counts self.new.builder.counts (book constants.old nodes.old assertions.old values.old worked.old) (book constants.new nodes.new assertions.new values.new worked.new) (divide F (Circuit i) (Native (E.Ring.means y))) (outcome (λ v. Some (var_means E.Ring.means v)) result) }
+        ensures called { (F : FieldOf E.algebra) × Called E.algebra E.means self.old.builder.capacity self.old.builder.counts self.new.builder.counts (book constants.old nodes.old assertions.old values.old worked.old) (book constants.new nodes.new assertions.new values.new worked.new) (divide F (Circuit i) (Native (E.means y))) (outcome (λ v. Some (var_means E.means v)) result) }
         ensures capacity { self.new.builder.capacity ≡ self.old.builder.capacity }
     {
         let x = self.value(constants, values, worked, Var::Circuit(i));
@@ -116,7 +116,7 @@ impl Open {
         worked: &mut [E],
         i: CircuitIdx,
     ) -> Result<Var<E>, Refusal>
-        ensures called { (F : FieldOf E.Ring.algebra) × Called E.Ring.algebra E.Ring.means self.old.builder.capacity self.old.builder.counts self.new.builder.counts (book constants.old nodes.old assertions.old values.old worked.old) (book constants.new nodes.new assertions.new values.new worked.new) (invert F (Circuit i)) (outcome (λ v. Some (var_means E.Ring.means v)) result) }
+        ensures called { (F : FieldOf E.algebra) × Called E.algebra E.means self.old.builder.capacity self.old.builder.counts self.new.builder.counts (book constants.old nodes.old assertions.old values.old worked.old) (book constants.new nodes.new assertions.new values.new worked.new) (invert F (Circuit i)) (outcome (λ v. Some (var_means E.means v)) result) }
         ensures capacity { self.new.builder.capacity ≡ self.old.builder.capacity }
     {
         let x = self.value(constants, values, worked, Var::Circuit(i));
@@ -144,7 +144,7 @@ impl Open {
         a: Var<E>,
         b: Var<E>,
     ) -> Result<Var<E>, Refusal>
-        ensures called { (F : FieldOf E.Ring.algebra) × Called E.Ring.algebra E.Ring.means self.old.builder.capacity self.old.builder.counts self.new.builder.counts (book constants.old nodes.old assertions.old values.old worked.old) (book constants.new nodes.new assertions.new values.new worked.new) (divide F (var_means E.Ring.means a) (var_means E.Ring.means b)) (outcome (λ v. Some (var_means E.Ring.means v)) result) }
+        ensures called { (F : FieldOf E.algebra) × Called E.algebra E.means self.old.builder.capacity self.old.builder.counts self.new.builder.counts (book constants.old nodes.old assertions.old values.old worked.old) (book constants.new nodes.new assertions.new values.new worked.new) (divide F (var_means E.means a) (var_means E.means b)) (outcome (λ v. Some (var_means E.means v)) result) }
         ensures capacity { self.new.builder.capacity ≡ self.old.builder.capacity }
     {
         match (a, b) {
@@ -176,7 +176,7 @@ impl Open {
         worked: &mut [E],
         a: Var<E>,
     ) -> Result<Var<E>, Refusal>
-        ensures called { (F : FieldOf E.Ring.algebra) × Called E.Ring.algebra E.Ring.means self.old.builder.capacity self.old.builder.counts self.new.builder.counts (book constants.old nodes.old assertions.old values.old worked.old) (book constants.new nodes.new assertions.new values.new worked.new) (invert F (var_means E.Ring.means a)) (outcome (λ v. Some (var_means E.Ring.means v)) result) }
+        ensures called { (F : FieldOf E.algebra) × Called E.algebra E.means self.old.builder.capacity self.old.builder.counts self.new.builder.counts (book constants.old nodes.old assertions.old values.old worked.old) (book constants.new nodes.new assertions.new values.new worked.new) (invert F (var_means E.means a)) (outcome (λ v. Some (var_means E.means v)) result) }
         ensures capacity { self.new.builder.capacity ≡ self.old.builder.capacity }
     {
         match a {

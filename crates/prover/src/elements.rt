@@ -23,7 +23,7 @@ impl Open {
         worked: &mut [E],
         x: E,
     ) -> Result<Var<E>, Refusal>
-        ensures called { Called algebra means self.old.builder.capacity self.old.builder.counts self.new.builder.counts (book constants.old nodes.old assertions.old values.old worked.old) (book constants.new nodes.new assertions.new values.new worked.new) (constant (means x)) (outcome (λ v. Some (var_means means v)) result) }
+        ensures called { Called E.algebra E.means self.old.builder.capacity self.old.builder.counts self.new.builder.counts (book constants.old nodes.old assertions.old values.old worked.old) (book constants.new nodes.new assertions.new values.new worked.new) (constant (E.means x)) (outcome (λ v. Some (var_means E.means v)) result) }
         ensures capacity { self.new.builder.capacity ≡ self.old.builder.capacity }
     {
         self.call(
@@ -47,7 +47,7 @@ impl Open {
         worked: &mut [E],
         value: E,
     ) -> Result<Var<E>, Refusal>
-        ensures called { Called algebra means self.old.builder.capacity self.old.builder.counts self.new.builder.counts (book constants.old nodes.old assertions.old values.old worked.old) (book constants.new nodes.new assertions.new values.new worked.new) (witness (means value)) (outcome (λ v. Some (var_means means v)) result) }
+        ensures called { Called E.algebra E.means self.old.builder.capacity self.old.builder.counts self.new.builder.counts (book constants.old nodes.old assertions.old values.old worked.old) (book constants.new nodes.new assertions.new values.new worked.new) (witness (E.means value)) (outcome (λ v. Some (var_means E.means v)) result) }
         ensures capacity { self.new.builder.capacity ≡ self.old.builder.capacity }
     {
         self.call(
@@ -72,7 +72,7 @@ impl Open {
         a: Var<E>,
         b: Var<E>,
     ) -> Result<Var<E>, Refusal>
-        ensures called { Called algebra means self.old.builder.capacity self.old.builder.counts self.new.builder.counts (book constants.old nodes.old assertions.old values.old worked.old) (book constants.new nodes.new assertions.new values.new worked.new) (add (var_means means a) (var_means means b)) (outcome (λ v. Some (var_means means v)) result) }
+        ensures called { Called E.algebra E.means self.old.builder.capacity self.old.builder.counts self.new.builder.counts (book constants.old nodes.old assertions.old values.old worked.old) (book constants.new nodes.new assertions.new values.new worked.new) (add (var_means E.means a) (var_means E.means b)) (outcome (λ v. Some (var_means E.means v)) result) }
         ensures capacity { self.new.builder.capacity ≡ self.old.builder.capacity }
     {
         self.call(
@@ -97,7 +97,7 @@ impl Open {
         a: Var<E>,
         b: Var<E>,
     ) -> Result<Var<E>, Refusal>
-        ensures called { Called algebra means self.old.builder.capacity self.old.builder.counts self.new.builder.counts (book constants.old nodes.old assertions.old values.old worked.old) (book constants.new nodes.new assertions.new values.new worked.new) (multiply (var_means means a) (var_means means b)) (outcome (λ v. Some (var_means means v)) result) }
+        ensures called { Called E.algebra E.means self.old.builder.capacity self.old.builder.counts self.new.builder.counts (book constants.old nodes.old assertions.old values.old worked.old) (book constants.new nodes.new assertions.new values.new worked.new) (multiply (var_means E.means a) (var_means E.means b)) (outcome (λ v. Some (var_means E.means v)) result) }
         ensures capacity { self.new.builder.capacity ≡ self.old.builder.capacity }
     {
         self.call(
@@ -121,7 +121,7 @@ impl Open {
         worked: &mut [E],
         a: Var<E>,
     ) -> Result<Var<E>, Refusal>
-        ensures called { Called algebra means self.old.builder.capacity self.old.builder.counts self.new.builder.counts (book constants.old nodes.old assertions.old values.old worked.old) (book constants.new nodes.new assertions.new values.new worked.new) (negate (var_means means a)) (outcome (λ v. Some (var_means means v)) result) }
+        ensures called { Called E.algebra E.means self.old.builder.capacity self.old.builder.counts self.new.builder.counts (book constants.old nodes.old assertions.old values.old worked.old) (book constants.new nodes.new assertions.new values.new worked.new) (negate (var_means E.means a)) (outcome (λ v. Some (var_means E.means v)) result) }
         ensures capacity { self.new.builder.capacity ≡ self.old.builder.capacity }
     {
         self.call(
@@ -146,7 +146,7 @@ impl Open {
         a: Var<E>,
         b: Var<E>,
     ) -> Result<Var<E>, Refusal>
-        ensures called { Called algebra means self.old.builder.capacity self.old.builder.counts self.new.builder.counts (book constants.old nodes.old assertions.old values.old worked.old) (book constants.new nodes.new assertions.new values.new worked.new) (subtract (var_means means a) (var_means means b)) (outcome (λ v. Some (var_means means v)) result) }
+        ensures called { Called E.algebra E.means self.old.builder.capacity self.old.builder.counts self.new.builder.counts (book constants.old nodes.old assertions.old values.old worked.old) (book constants.new nodes.new assertions.new values.new worked.new) (subtract (var_means E.means a) (var_means E.means b)) (outcome (λ v. Some (var_means E.means v)) result) }
         ensures capacity { self.new.builder.capacity ≡ self.old.builder.capacity }
     {
         self.call(
@@ -171,7 +171,7 @@ impl Open {
         a: Var<E>,
         b: Var<E>,
     ) -> Result<(), Refusal>
-        ensures called { (d : Settled (var_means means a) (var_means means b)) → Called algebra means self.old.builder.capacity self.old.builder.counts self.new.builder.counts (book constants.old nodes.old assertions.old values.old worked.old) (book constants.new nodes.new assertions.new values.new worked.new) (assert_equal (var_means means a) (var_means means b) d) (outcome (λ _. None) result) }
+        ensures called { (d : Settled (var_means E.means a) (var_means E.means b)) → Called E.algebra E.means self.old.builder.capacity self.old.builder.counts self.new.builder.counts (book constants.old nodes.old assertions.old values.old worked.old) (book constants.new nodes.new assertions.new values.new worked.new) (assert_equal (var_means E.means a) (var_means E.means b) d) (outcome (λ _. None) result) }
         ensures capacity { self.new.builder.capacity ≡ self.old.builder.capacity }
     {
         let _ = self.call(

@@ -8,7 +8,7 @@ use worksheet::{CircuitIdx, Counts};
 
 // An entry of a table whose first n are in use, or zero.
 fn entry<E: Ring>(table: &[E], n: u32, k: u32) -> E
-    ensures { means result ≡ slice_index_or (map means (take n table.now)) k algebra.nought }
+    ensures { E.means result ≡ slice_index_or (map E.means (take n table.now)) k E.algebra.nought }
 {
     if k < n && (k as usize) < table.len() {
         table[k as usize]
@@ -25,7 +25,7 @@ pub fn value_of<E: Ring>(
     worked: &[E],
     id: CircuitIdx,
 ) -> E
-    ensures { means result ≡ look algebra (of_constants (map means (take counts.constants constants.now))) (map means (take counts.witnesses values.now)) (map means (take counts.nodes worked.now)) id }
+    ensures { E.means result ≡ look E.algebra (of_constants (map E.means (take counts.constants constants.now))) (map E.means (take counts.witnesses values.now)) (map E.means (take counts.nodes worked.now)) id }
 {
     match id {
         CircuitIdx::Constant(k) => entry(constants, counts.constants, k),

@@ -28,7 +28,7 @@ pub fn assertions_hold<E: Ring>(
     worked: &[E],
     assertions: &[(CircuitIdx, CircuitIdx)],
 ) -> bool
-    ensures { (ns : List Node) → Decides result (Holds (sheet_of means counts (book constants.now ns assertions.now values.now worked.now)) (values_of algebra (worksheet_in means counts (book constants.now ns assertions.now values.now worked.now)))) }
+    ensures { (ns : List Node) → Decides result (Holds (sheet_of E.means counts (book constants.now ns assertions.now values.now worked.now)) (values_of E.algebra (worksheet_in E.means counts (book constants.now ns assertions.now values.now worked.now)))) }
 {
     let n = used(counts.assertions, assertions.len());
     for k in 0..n {

@@ -29,7 +29,7 @@ fn has(counts: Counts, id: CircuitIdx) -> bool
 impl<'a, E: Ring> Values<'a, E> {
     // The value of an id, whatever the nodes and assertions are; an id past its count is refused.
     pub fn get(&self, id: CircuitIdx) -> Result<E, Refusal>
-        ensures { MatchResult result (λ x. (known_id self.now.counts id ≡ true) × ((ns : List Node) (qs : List (Id × Id)) → means x ≡ values_of algebra (worksheet_in means self.now.counts (book self.now.constants.now ns qs self.now.values.now self.now.worked.now)) id)) (λ e. (number_of e ≡ 3) × (known_id self.now.counts id ≡ false)) }
+        ensures { MatchResult result (λ x. (known_id self.now.counts id ≡ true) × ((ns : List Node) (qs : List (Id × Id)) → E.means x ≡ values_of E.algebra (worksheet_in E.means self.now.counts (book self.now.constants.now ns qs self.now.values.now self.now.worked.now)) id)) (λ e. (number_of e ≡ 3) × (known_id self.now.counts id ≡ false)) }
     {
         if !has(self.counts, id) {
             return Err(Refusal::Absent);
@@ -39,7 +39,7 @@ impl<'a, E: Ring> Values<'a, E> {
 
     // Whether every assertion holds on the values.
     pub fn is_satisfied(&self) -> bool
-        ensures { (ns : List Node) → Decides result (Holds (sheet_of means self.now.counts (book self.now.constants.now ns self.now.assertions.now self.now.values.now self.now.worked.now)) (values_of algebra (worksheet_in means self.now.counts (book self.now.constants.now ns self.now.assertions.now self.now.values.now self.now.worked.now)))) }
+        ensures { (ns : List Node) → Decides result (Holds (sheet_of E.means self.now.counts (book self.now.constants.now ns self.now.assertions.now self.now.values.now self.now.worked.now)) (values_of E.algebra (worksheet_in E.means self.now.counts (book self.now.constants.now ns self.now.assertions.now self.now.values.now self.now.worked.now)))) }
     {
         assertions_hold(
             self.counts,

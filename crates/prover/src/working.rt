@@ -26,7 +26,7 @@ fn value_of_node<E: Ring>(
     worked: &[E],
     node: CircuitNode,
 ) -> E
-    ensures { means result ≡ combine algebra node (look algebra (of_constants (map means (take counts.constants constants.now))) (map means (take counts.witnesses values.now)) (map means (take counts.nodes worked.now)) (left_of node)) (look algebra (of_constants (map means (take counts.constants constants.now))) (map means (take counts.witnesses values.now)) (map means (take counts.nodes worked.now)) (right_of node)) }
+    ensures { E.means result ≡ combine E.algebra node (look E.algebra (of_constants (map E.means (take counts.constants constants.now))) (map E.means (take counts.witnesses values.now)) (map E.means (take counts.nodes worked.now)) (left_of node)) (look E.algebra (of_constants (map E.means (take counts.constants constants.now))) (map E.means (take counts.witnesses values.now)) (map E.means (take counts.nodes worked.now)) (right_of node)) }
 {
     match node {
         CircuitNode::Add(a, b) => {
@@ -52,7 +52,7 @@ pub fn work_out<E: Ring>(
     worked: &mut [E],
 )
     requires { (first ≤ counts.nodes) × ((counts.nodes ≤ length nodes.now) × (counts.nodes ≤ length worked.old)) }
-    ensures values { map means (take counts.nodes worked.new) ≡ work_out algebra (of_constants (map means (take counts.constants constants.now))) (map means (take counts.witnesses values.now)) (map means (take first worked.old)) (drop first (take counts.nodes nodes.now)) }
+    ensures values { map E.means (take counts.nodes worked.new) ≡ work_out E.algebra (of_constants (map E.means (take counts.constants constants.now))) (map E.means (take counts.witnesses values.now)) (map E.means (take first worked.old)) (drop first (take counts.nodes nodes.now)) }
     ensures spare { drop counts.nodes worked.new ≡ drop counts.nodes worked.old }
 {
     for k in first..counts.nodes {

@@ -1,4 +1,4 @@
-use Rattle.std.proofs.Common.{◌≡◌, ap, ◌∙◌, ap₂}
+use Rattle.std.proofs.Common.{ap, ◌∙◌, ap₂}
 use Rattle.worksheet.specs.declared.Var.TheVariants.{Circuit}
 use Rattle.worksheet.specs.Calls.{var_means}
 use Rattle.prover.specs.Book.{book, sheet_of, worksheet_in}

@@ -24,8 +24,8 @@ returns-in-Circuit g c =
     let o = a.self.now.builder in
     let n = o.counts in
     let t = book a.constants.now a.nodes.now a.assertions.now a.values.now a.worked.now in
-    let m = c.invert-id.new in
+    let m = c.invert_id.new in
     let t' = book m.constants m.nodes m.assertions m.values m.worked in
     let n' = m.self.builder.counts in
-    let made = c.invert-id.ensures.called in
-    record { called = (made.0, of_one r.algebra r.means o.capacity n t n' t' (invert made.0) _ a.a (Circuit c.in-Circuit.i) c.in-Circuit.is made.1); capacity = c.invert-id.ensures.capacity }
+    let made = c.invert_id.ensures.called in
+    record { called = (made.0, of_one r.algebra r.means o.capacity n t n' t' (invert made.0) _ a.a (Circuit c.in-Circuit.i) c.in-Circuit.is made.1); capacity = c.invert_id.ensures.capacity }

@@ -1,4 +1,4 @@
-use Rattle.std.proofs.Common.{◌≡◌, ap, ◌∙◌}
+use Rattle.std.proofs.Common.{ap, ◌∙◌}
 use Rattle.worksheet.specs.declared.Var.TheVariants.{Circuit}
 use Rattle.prover.specs.Book.{book, sheet_of, worksheet_in}
 use Rattle.prover.proofs.Natives.{worth_by}

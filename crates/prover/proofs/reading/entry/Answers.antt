@@ -1,4 +1,4 @@
-use Rattle.std.proofs.Common.{◌≤◌, length, take, ◌∙◌, inl, inr, arith, length-take}
+use Rattle.std.proofs.Common.{◌≤◌, length, take, ◌∙◌, arith, length-take}
 use Rattle.prover.proofs.Entries.{entry_there, entry_past}
 use Rattle.prover.proofs.reading.entry.Goals as goal
 

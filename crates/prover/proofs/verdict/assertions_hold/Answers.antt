@@ -1,4 +1,4 @@
-use Rattle.std.proofs.Common.{◌≡◌, sym, refl, ◌∙◌, arith, below_more}
+use Rattle.std.proofs.Common.{sym, refl, ◌∙◌, arith, below_more}
 use Rattle.std.proofs.lemmas.Bool.{both_ways, false≢true}
 use Rattle.prover.specs.Book.{book}
 use Rattle.prover.proofs.Assertions.{all_hold, each_holds}
@@ -11,11 +11,11 @@ returns-then-not-equal g c ns =
     let t = book a.constants.now ns a.assertions.now a.values.now a.worked.now in
     let count = c.used-n.ensures in (
       λ no'. absurd (false≢true no'),
-      λ all. absurd (both_ways _ c.if-not-equal.true (c.equal.ensures.no (c.value-of-x.ensures ∙ each_holds r.algebra r.means a.counts t c.loop-k.k (omega arith) all ∙ sym c.value-of-y.ensures))),
+      λ all. absurd (both_ways _ c.if-not-equal.true (c.equal.ensures.no (c.value_of-x.ensures ∙ each_holds r.algebra r.means a.counts t c.loop-k.k (omega arith) all ∙ sym c.value_of-y.ensures))),
     )
 
 pub loop-k-preserved : goal.loop-k-preserved
-loop-k-preserved g c = below_more _ _ c.loop-k.invariant (sym c.value-of-x.ensures ∙ c.equal.ensures.yes c.if-not-equal.false ∙ c.value-of-y.ensures)
+loop-k-preserved g c = below_more _ _ c.loop-k.invariant (sym c.value_of-x.ensures ∙ c.equal.ensures.yes c.if-not-equal.false ∙ c.value_of-y.ensures)
 
 pub returns : goal.returns
 returns g c ns =

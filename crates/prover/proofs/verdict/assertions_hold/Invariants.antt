@@ -1,4 +1,4 @@
-use Rattle.std.proofs.Common.{◌≡◌, map, take}
+use Rattle.std.proofs.Common.{map, take}
 use Rattle.worksheet.specs.Runs.{look}
 use Rattle.prover.specs.Book.{of_constants}
 use Rattle.prover.proofs.Assertions.{HoldBelow}

@@ -1,4 +1,4 @@
-use Rattle.std.proofs.Common.{◌≡◌, map, take, drop, sym, refl, ap, ◌∙◌, arith}
+use Rattle.std.proofs.Common.{◌≡◌, map, take, sym, ap, ◌∙◌, arith}
 use Rattle.std.proofs.lemmas.List.{drop-set-lt, get_or_default}
 use Rattle.prover.specs.Book.{of_constants}
 use Rattle.prover.proofs.WorkingOut.{one_more, all_worked}
@@ -13,8 +13,8 @@ loop-k-preserved g c =
     let ρ = map r.means (take n.witnesses a.values.now) in
     let ws = c.loop-k.worked in
     let k = c.loop-k.k in
-    let x = c.value-of-node.result in (
-      one_more r.algebra r.means S ρ a.nodes.now n.nodes (omega arith) ws k (omega arith) (omega arith) x _ (get_or_default a.nodes.now k _ _ (omega arith)) c.value-of-node.ensures ∙ c.loop-k.invariant.0,
+    let x = c.value_of_node.result in (
+      one_more r.algebra r.means S ρ a.nodes.now n.nodes (omega arith) ws k (omega arith) (omega arith) x _ (get_or_default a.nodes.now k _ _ (omega arith)) c.value_of_node.ensures ∙ c.loop-k.invariant.0,
       drop-set-lt n.nodes ws k x (omega arith) ∙ c.loop-k.invariant.1,
     )
 
