@@ -1,8 +1,7 @@
 -- What a request asks: its operands, cost and answer are those of the calls that it stands for.
-use Rattle.std.proofs.Common.{◌≡◌, Bool, true, false, List, [], ◌∷◌, length, sym, refl, ap, ◌∙◌}
+use Rattle.std.proofs.Common.{◌≡◌, Bool, true, List, [], ◌∷◌, refl, ap, ◌∙◌}
 use Rattle.std.proofs.lemmas.Bool.{and_parts}
 use Rattle.ring.specs.Algebra.{RingOn}
-use Rattle.worksheet.specs.declared.CircuitIdx.{CircuitIdx}
 use Rattle.worksheet.specs.declared.Counts.{Counts}
 use Rattle.worksheet.specs.declared.Var.{Var}
 use Rattle.worksheet.specs.declared.Var.TheVariants.{Native, Circuit}

@@ -1,11 +1,11 @@
 -- A call that is admitted and written is the step of its definition, and so is one that is refused.
-use Rattle.std.proofs.Common.{◌≡◌, ℕ, ◌+◌, ◌<◌, ◌≤◌, Bool, true, false, cond, not, ◌&&◌, ◌||◌, ltb, List, [], ◌∷◌, map, length, take, drop, Some, None, Ok, Err, Option, Result, sym, refl, ap, ◌∙◌, subst, inl, inr, arith}
+use Rattle.std.proofs.Common.{◌≡◌, ℕ, ◌≤◌, Bool, true, false, cond, not, ◌&&◌, ltb, List, [], ◌∷◌, map, length, take, drop, Some, None, Ok, Err, Option, Result, sym, refl, ap, ◌∙◌, inl, inr, arith}
 use lib.ListN.{length-map}
 use Rattle.std.proofs.lemmas.List.{length-take-le}
-use Rattle.std.proofs.lemmas.Bool.{cases_Bool, or_parts, ltb-false, ltb-true, and_parts, not-false, both_ways, cond-true, cond-false}
+use Rattle.std.proofs.lemmas.Bool.{cases_Bool, or_parts, ltb-false, ltb-true, not-false, both_ways, cond-true, cond-false}
 use Rattle.refusal.specs.declared.Refusal.{Refusal}
 use Rattle.refusal.specs.declared.Refusal.TheVariants.{ShortTable}
-use Rattle.refusal.specs.Outcome.{Outcome, accepted, refused, outcome}
+use Rattle.refusal.specs.Outcome.{accepted, refused, outcome}
 use Rattle.ring.specs.Algebra.{RingOn}
 use Rattle.worksheet.specs.declared.CircuitIdx.{CircuitIdx}
 use Rattle.worksheet.specs.declared.CircuitIdx.TheVariants.{Constant, Witness, Node}
@@ -15,16 +15,15 @@ use Rattle.worksheet.specs.declared.Var.{Var}
 use Rattle.worksheet.specs.declared.Var.TheVariants.{Native, Circuit}
 use Rattle.worksheet.specs.Sheet.{Sheet}
 use Rattle.worksheet.specs.Calls.{Answered, var_means}
-use Rattle.worksheet.specs.Law.{Stepped}
-use Rattle.worksheet.specs.Runs.{verifier, Call, Reply, Worksheet, perform, reply, operands, all_known, known, clashes, refusal, call_causes, step, step_by}
+use Rattle.worksheet.specs.Runs.{verifier, Call, Reply, Worksheet, perform, reply, operands, all_known, known, clashes, refusal, call_causes, step_by}
 use Rattle.worksheet.proofs.Stepping.{accepts_step, clear}
 use Rattle.builder.specs.declared.Builder.{Builder}
 use Rattle.builder.specs.declared.Tables.{Tables}
 use Rattle.builder.specs.Admission.{known_by, all_by, causes}
 use Rattle.builder.specs.Called.{short, worksheet_in, Called}
 use Rattle.builder.specs.Cost.{counts}
-use Rattle.builder.specs.Tables.{sheet_in, sheet_of, Room, There, Grew, Kept}
-use Rattle.builder.specs.Within.{Within, Small, sum}
+use Rattle.builder.specs.Tables.{sheet_in, Room, There, Grew}
+use Rattle.builder.specs.Within.{Within, sum}
 use Rattle.builder.proofs.Pushes.{same_counts}
 use Rattle.builder.proofs.Sizes.{sizes}
 

@@ -1,5 +1,5 @@
 -- What one entry more in a table is to the worksheet.
-use Rattle.std.proofs.Common.{◌≡◌, ℕ, ◌+◌, ◌<◌, ◌≤◌, List, [], ◌∷◌, ◌++◌, map, length, take, drop, set, sym, refl, ap, ◌∙◌, add-zero, add-one, arith, length-set}
+use Rattle.std.proofs.Common.{◌≡◌, ℕ, ◌+◌, ◌<◌, List, [], ◌∷◌, ◌++◌, map, length, take, drop, set, sym, refl, ap, ◌∙◌, add-zero, add-one, arith, length-set}
 use lib.ListN.{length-map}
 use Rattle.std.proofs.lemmas.List.{take_more_set, map_push, length-take-le, drop-set-lt}
 use Rattle.worksheet.specs.declared.CircuitIdx.{CircuitIdx}
@@ -11,8 +11,7 @@ use Rattle.worksheet.specs.Sheet.{Sheet}
 use Rattle.worksheet.specs.Calls.{push_constant, push_witness, push_node, push_assertion}
 use Rattle.builder.specs.declared.Tables.{Tables}
 use Rattle.builder.specs.Cost.{counts, constant_cost, witness_cost, node_cost}
-use Rattle.builder.specs.Tables.{sheet_of, Room, Kept, Grew, Wrote}
-use Rattle.builder.specs.Within.{sum}
+use Rattle.builder.specs.Tables.{sheet_of, Room, Grew, Wrote}
 
 -- counts are equal if each is
 pub same_counts : (n m : Counts) → n.constants ≡ m.constants → n.witnesses ≡ m.witnesses → n.nodes ≡ m.nodes → n.assertions ≡ m.assertions → n ≡ m

@@ -1,6 +1,4 @@
-use Rattle.std.proofs.Common.{sym, refl, ap, ◌∙◌, subst}
-use Rattle.worksheet.specs.declared.CircuitIdx.{CircuitIdx}
-use Rattle.worksheet.specs.declared.CircuitIdx.TheVariants.{Constant}
+use Rattle.std.proofs.Common.{refl, ap, ◌∙◌, subst}
 use Rattle.worksheet.specs.declared.CircuitNode.TheVariants.{Mul}
 use Rattle.worksheet.specs.declared.Var.TheVariants.{Circuit}
 use Rattle.worksheet.specs.Calls.{push_constant, push_node}
