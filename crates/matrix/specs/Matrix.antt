@@ -24,11 +24,11 @@ raised h w m = record { cells = m.cells; height = max m.height h; width = max m.
 abbrev pub padded : {M : Type 0} → ℕ → ℕ → Matrix M → Outcome (Matrix M)
 padded w h m = cond (nat_le w limit && nat_le h limit) (accepted (raised h w m)) (refused 15)
 
--- the weight at row r, column c goes through f
+-- the matrix once the weight at row r, column c went through f
 abbrev pub through : {M : Type 0} → RingOn M → ℕ → ℕ → (M → M) → Matrix M → Matrix M
 through R r c f m = raised (r + 1) (c + 1) (record { cells = changed R r c f m.cells; height = m.height; width = m.width })
 
--- in a table with room for so many cells
+-- the weight at row r, column c goes through f, in a table with room for so many cells
 abbrev pub touched : {M : Type 0} → RingOn M → ℕ → ℕ → ℕ → (M → M) → Matrix M → Outcome (Matrix M)
 touched R room r c f m =
     cond (nat_lt r limit && nat_lt c limit)
