@@ -1,10 +1,11 @@
 #!/usr/bin/env python3
 """Respells the repository's own definitions and lemmas: words in snake case, types in camel case.
 
-Run once, at the top, on what an older Rattle's spelling left with dashes. It reads which names the
-.antt files of specs/ and proofs/ declare, and turns each of them wherever it stands: in those files, in
-clauses, in must-fail edits, and between backquotes in documents. Names of the library, names that the
-check makes, functions of src/, strings and comments stay.
+Run once, at the top, on what an older Rattle's spelling left with dashes. It takes the dashed names that
+stand in specs/ and in the lemma files of proofs/, and the dashed import aliases, but for those that a file
+imports from a library, and turns each wherever it stands: in those files, in clauses, in must-fail edits, and
+between backquotes in documents. Names that the check makes, functions of src/, strings and comments stay.
+It stops where two dashed names fall together; whether one falls on a name without a dash is not looked at.
 """
 import collections
 import glob
@@ -19,8 +20,6 @@ DECLARED = re.compile(
 )
 USE = re.compile(r"\s*(?:pub )?(?:ghost )?use ([^{;]*?)(?:\.\{(.*)\})?;?\s*$")
 SPECIAL = {"W-L": "W_L", "W-R": "W_R", "W-O": "W_O", "W-V": "W_V"}
-# also the library's, which a file of the repository declares again
-KEPT = {"get_or-map", "length-map"}
 
 
 def respelled(name):
@@ -80,7 +79,7 @@ for path in sources:
     for line in open(path):
         if not USE.match(line):
             names.update(t for t in TOKEN.findall(code(line)) if DASHED.match(t))
-names -= imported | KEPT
+names -= imported
 table = {n: respelled(n) for n in names}
 back = collections.defaultdict(set)
 for old, new in table.items():
