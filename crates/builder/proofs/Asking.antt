@@ -1,5 +1,6 @@
 -- What a request asks: its operands, cost and answer are those of the calls that it stands for.
-use Rattle.std.proofs.Common.{◌≡◌, Bool, true, List, [], ◌∷◌, refl, ap, ◌∙◌}
+use Rattle.std.proofs.Common.{◌≡◌, ℕ, ◌||◌, Bool, true, List, [], ◌∷◌, Some, None, Option, sym, refl, ap, ◌∙◌, subst, arith}
+use Rattle.refusal.specs.Outcome.{accepted, refused}
 use Rattle.std.proofs.lemmas.Bool.{and_parts}
 use Rattle.ring.specs.Algebra.{RingOn}
 use Rattle.worksheet.specs.declared.Counts.{Counts}
@@ -7,18 +8,23 @@ use Rattle.worksheet.specs.declared.Var.{Var}
 use Rattle.worksheet.specs.declared.Var.TheVariants.{Native, Circuit}
 use Rattle.worksheet.specs.Sheet.{Sheet}
 use Rattle.worksheet.specs.Calls.{var_means, plus_op, times_op, push_witness}
-use Rattle.worksheet.specs.Runs.{verifier, Call}
+use Rattle.worksheet.specs.Runs.{verifier, native_square, Call, refusal}
+use Rattle.worksheet.proofs.Alike.{differ_agree}
 use Rattle.builder.specs.declared.cost.Cost.{Cost}
 use Rattle.builder.specs.declared.cost.Kind.{Kind}
 use Rattle.builder.specs.declared.cost.Kind.TheVariants.{Native as native_kind}
+use Rattle.builder.specs.declared.Builder.{Builder}
+use Rattle.builder.specs.declared.Draft.{Draft}
+use Rattle.builder.specs.declared.Tables.{Tables}
 use Rattle.builder.specs.declared.Request.{Request}
 use Rattle.builder.specs.declared.Request.TheVariants.{Constant, Witness, Add, Multiply, Negate, Subtract, DivideBy, DivideId, Invert, AssertEqual, BooleanWitness, BooleanAssert, Not, And, Or, Select}
-use Rattle.builder.specs.Admission.{known_by, all_by}
+use Rattle.builder.specs.Admission.{known_by, all_by, causes}
+use Rattle.builder.specs.Called.{short, Called, Lent, Made}
 use Rattle.builder.specs.Cost.{kind_of, kind_of_id, witness_cost, operate_cost, negate_cost, subtract_cost, assert_cost, quotient_cost, square_cost, either_cost, select_cost}
-use Rattle.builder.specs.Requests.{vars, request_cost, performed, shown, Of, Clash}
-use Rattle.builder.specs.Tables.{AllThere}
-use Rattle.builder.specs.Within.{sum}
-use Rattle.builder.proofs.Calling.{Asked, there_known}
+use Rattle.builder.specs.Requests.{vars, request_cost, performed, shown, OfStructure, Clash}
+use Rattle.builder.specs.Tables.{sheet_in, AllThere, Room, Wrote}
+use Rattle.builder.specs.Within.{Within, sum}
+use Rattle.builder.proofs.Calling.{Asked, there_known, refused_call, operands_known, room, fits, accepted_call}
 use Rattle.builder.proofs.Sizes.{sizes, constant_sized, witness_sized, operate_sized, negate_sized, subtract_sized, assert_sized, quotient_sized, square_sized, either_sized, select_sized, sized_on}
 
 kind_means : {E M : Type 0} (means : E → M) (v : Var E) → kind_of (var_means means v) ≡ kind_of v
@@ -63,21 +69,57 @@ module _ {E M : Type 0} (R : RingOn M) (means : E → M) (S : Sheet M) where
       ((select_sized R S (m b) (m t) (m f)).counts ∙ ap (λ k. sum (sizes S) (select_cost (kind_of (m b)) (kind_of (m t)) k).counts) (kind_means means f))
 
   -- what holds of every call that is asked so holds of the calls that the request stands for
-  pub of_asked : (q : Request E) (clash : Bool) → Clash R means q clash → (P : Call R verifier → Type 0) → ((c : Call R verifier) → Asked R means S c (vars q) clash (request_cost q).counts (performed R means S q) (shown R means q) → P c) → Of R means q P
+  pub of_asked : (q : Request E) (clash : Bool) → Clash R means q clash → (P : Call R verifier → Type 0) → ((c : Call R verifier) → Asked R means S c (vars q) clash (request_cost q).counts (performed R means S q) (shown R means q) → P c) → OfStructure R means q P
   of_asked (Constant x) b e P h = h _ (record { named = refl; clash_is = e; sized = request_sized (Constant x); performs = refl; replies = λ _. refl })
-  of_asked Witness b e P h = h _ (record { named = refl; clash_is = e; sized = request_sized Witness; performs = refl; replies = λ _. refl })
+  of_asked Witness b e P h = λ _ _. h _ (record { named = refl; clash_is = e; sized = request_sized Witness; performs = refl; replies = λ _. refl })
   of_asked (Add x y) b e P h = h _ (record { named = refl; clash_is = e; sized = request_sized (Add x y); performs = refl; replies = λ _. refl })
   of_asked (Multiply x y) b e P h = h _ (record { named = refl; clash_is = e; sized = request_sized (Multiply x y); performs = refl; replies = λ _. refl })
   of_asked (Negate x) b e P h = h _ (record { named = refl; clash_is = e; sized = request_sized (Negate x); performs = refl; replies = λ _. refl })
   of_asked (Subtract x y) b e P h = h _ (record { named = refl; clash_is = e; sized = request_sized (Subtract x y); performs = refl; replies = λ _. refl })
-  of_asked (DivideBy (Native x) i) b e P h = λ F. h _ (record { named = refl; clash_is = e; sized = request_sized (DivideBy (Native x) i); performs = refl; replies = λ _. refl })
-  of_asked (DivideBy (Circuit j) i) b e P h = λ F. h _ (record { named = refl; clash_is = e; sized = request_sized (DivideBy (Circuit j) i); performs = refl; replies = λ _. refl })
-  of_asked (DivideId i y) b e P h = λ F. h _ (record { named = refl; clash_is = e; sized = request_sized (DivideId i y); performs = refl; replies = λ _. refl })
-  of_asked (Invert i) b e P h = λ F. h _ (record { named = refl; clash_is = e; sized = request_sized (Invert i); performs = refl; replies = λ _. refl })
-  of_asked (AssertEqual x y) b e P h = (e.0, h _ (record { named = refl; clash_is = e.1; sized = request_sized (AssertEqual x y); performs = refl; replies = λ _. refl }))
-  of_asked BooleanWitness b e P h = h _ (record { named = refl; clash_is = e; sized = request_sized BooleanWitness; performs = refl; replies = λ _. refl })
-  of_asked (BooleanAssert x) b e P h = (e.0, h _ (record { named = refl; clash_is = e.1; sized = request_sized (BooleanAssert x); performs = refl; replies = λ _. refl }))
+  of_asked (DivideBy (Native x) i) b e P h = λ F _. h _ (record { named = refl; clash_is = e; sized = request_sized (DivideBy (Native x) i); performs = refl; replies = λ _. refl })
+  of_asked (DivideBy (Circuit j) i) b e P h = λ F _. h _ (record { named = refl; clash_is = e; sized = request_sized (DivideBy (Circuit j) i); performs = refl; replies = λ _. refl })
+  of_asked (DivideId i y) b e P h = λ F _. h _ (record { named = refl; clash_is = e; sized = request_sized (DivideId i y); performs = refl; replies = λ _. refl })
+  of_asked (Invert i) b e P h = λ F _. h _ (record { named = refl; clash_is = e; sized = request_sized (Invert i); performs = refl; replies = λ _. refl })
+  of_asked (AssertEqual x y) b e P h = (e.0, λ d. h _ (record { named = refl; clash_is = e.1 ∙ differ_agree (m x) (m y) e.0 d; sized = request_sized (AssertEqual x y); performs = refl; replies = λ _. refl }))
+  of_asked BooleanWitness b e P h = λ _ _. h _ (record { named = refl; clash_is = e; sized = request_sized BooleanWitness; performs = refl; replies = λ _. refl })
+  of_asked (BooleanAssert x) b e P h = (e.0, λ d. h _ (record { named = refl; clash_is = e.1 ∙ differ_agree (native_square R (m x)) (m x) e.0 d; sized = request_sized (BooleanAssert x); performs = refl; replies = λ _. refl }))
   of_asked (Not x) b e P h = h _ (record { named = refl; clash_is = e; sized = request_sized (Not x); performs = refl; replies = λ _. refl })
   of_asked (And x y) b e P h = h _ (record { named = refl; clash_is = e; sized = request_sized (And x y); performs = refl; replies = λ _. refl })
   of_asked (Or x y) b e P h = h _ (record { named = refl; clash_is = e; sized = request_sized (Or x y); performs = refl; replies = λ _. refl })
   of_asked (Select x y z) b e P h = h _ (record { named = refl; clash_is = e; sized = request_sized (Select x y z); performs = refl; replies = λ _. refl })
+
+-- a request as a whole, on tables t: f, b, k, clash and m are what code has found of other tables, of these, of the operands, of the natives and of the cost
+module _ {E M : Type 0} (R : RingOn M) (means : E → M) (o : Builder) (f : Bool) (t : Tables E) (q : Request E) (b k clash : Bool) (n : Counts) (is_short : b ≡ (f || short o.capacity t.constants.now t.nodes.now t.assertions.now)) (is_known : k ≡ all_by o.counts (vars q)) (is_cost : n ≡ (request_cost q).counts) (is_clash : Clash R means q clash) where
+  abbrev S : Sheet M
+  S = sheet_in means o.counts t.constants.now t.nodes.now t.assertions.now
+
+  abbrev Refusing : Option ℕ → Type 0
+  Refusing r = refusal (causes o.capacity o.counts b k clash n) ≡ r
+
+  pub refused_request : (j : ℕ) → Refusing (Some j) → OfStructure R means q (λ c. Made R means f o o t t c (refused j))
+  refused_request j e = of_asked R means S q clash is_clash (λ c. Made R means f o o t t c (refused j)) (λ c asked. record {
+    called = refused_call R means o f t.constants.now t.nodes.now t.assertions.now c (vars q) clash (request_cost q).counts (performed R means S q) (shown R means q) asked b k n is_short is_known is_cost j e;
+    capacity = refl;
+    grows = (omega arith, omega arith, omega arith, omega arith);
+    lent = record { constants = refl; nodes = refl; assertions = refl };
+  })
+
+  pub room_for : Refusing None → (d : Draft E) → d.counts ≡ o.counts → d.constants.now ≡ t.constants.now → d.nodes.now ≡ t.nodes.now → d.assertions.now ≡ t.assertions.now → Room d (request_cost q).counts
+  room_for e = room R means o f t.constants.now t.nodes.now t.assertions.now (vars q) clash (request_cost q).counts b k n is_short is_known is_cost e
+
+  pub operands_there : Refusing None → AllThere o.counts (vars q)
+  operands_there e = all_there o.counts (vars q) (operands_known R means o f t.constants.now t.nodes.now t.assertions.now (vars q) clash (request_cost q).counts b k n is_short is_known is_cost e)
+
+  pub within_capacity : Refusing None → Within (sum o.counts (request_cost q).counts) o.capacity
+  within_capacity e = fits R means o f t.constants.now t.nodes.now t.assertions.now (vars q) clash (request_cost q).counts b k n is_short is_known is_cost e
+
+  pub accepted_request : Refusing None → (d d' : Draft E) (v : Var E) → d.constants.now ≡ t.constants.now → d.nodes.now ≡ t.nodes.now → d.assertions.now ≡ t.assertions.now → Wrote means d d' (request_cost q) (performed R means S q) v → (is : Builder) (t' : Tables E) → d.counts ≡ o.counts → is.counts ≡ d'.counts → is.capacity ≡ o.capacity → t'.constants.now ≡ d'.constants.now → t'.nodes.now ≡ d'.nodes.now → t'.assertions.now ≡ d'.assertions.now → Lent t t' → OfStructure R means q (λ c. Made R means f o is t t' c (accepted (shown R means q (var_means means v))))
+  accepted_request e d d' v cs ns qs wrote is t' was counted cap cs' ns' qs' lent =
+      let grown = counted ∙ wrote.grew.counts ∙ ap (λ (j : Counts). sum j (request_cost q).counts) was in
+      of_asked R means S q clash is_clash (λ c. Made R means f o is t t' c (accepted (shown R means q (var_means means v)))) (λ c asked. record {
+        called = subst (λ (j : Counts). Called R means o.capacity o.counts j f t.constants.now t'.constants.now t.nodes.now t'.nodes.now t.assertions.now t'.assertions.now c (accepted (shown R means q (var_means means v)))) (sym counted)
+        (accepted_call R means o f t.constants.now t.nodes.now t.assertions.now c (vars q) clash (request_cost q).counts (performed R means S q) (shown R means q) asked b k n is_short is_known is_cost e d d' v cs ns qs wrote.grew wrote.answer t'.constants.now t'.nodes.now t'.assertions.now cs' ns' qs');
+        capacity = cap;
+        grows = subst (Within o.counts) (sym grown) (omega arith, omega arith, omega arith, omega arith);
+        lent = lent;
+      })

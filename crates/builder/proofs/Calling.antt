@@ -1,5 +1,5 @@
 -- A call that is admitted and written is the step of its definition, and so is one that is refused.
-use Rattle.std.proofs.Common.{◌≡◌, ℕ, ◌≤◌, Bool, true, false, cond, not, ◌&&◌, ltb, List, [], ◌∷◌, map, length, take, drop, Some, None, Ok, Err, Option, Result, sym, refl, ap, ◌∙◌, inl, inr, arith}
+use Rattle.std.proofs.Common.{◌≡◌, ℕ, ◌≤◌, Bool, true, false, cond, not, ◌&&◌, ◌||◌, ltb, List, [], ◌∷◌, map, length, take, drop, Some, None, Ok, Err, Option, Result, sym, refl, ap, ◌∙◌, inl, inr, arith}
 use lib.ListN.{length-map}
 use Rattle.std.proofs.lemmas.List.{length-take-le}
 use Rattle.std.proofs.lemmas.Bool.{cases_Bool, or_parts, ltb-false, ltb-true, not-false, both_ways, cond-true, cond-false}
@@ -18,7 +18,7 @@ use Rattle.worksheet.specs.Calls.{Answered, var_means}
 use Rattle.worksheet.specs.Runs.{verifier, Call, Reply, Worksheet, perform, reply, operands, all_known, known, clashes, refusal, call_causes, step_by}
 use Rattle.worksheet.proofs.Stepping.{accepts_step, clear}
 use Rattle.builder.specs.declared.Builder.{Builder}
-use Rattle.builder.specs.declared.Tables.{Tables}
+use Rattle.builder.specs.declared.Draft.{Draft}
 use Rattle.builder.specs.Admission.{known_by, all_by, causes}
 use Rattle.builder.specs.Called.{short, worksheet_in, Called}
 use Rattle.builder.specs.Cost.{counts}
@@ -42,7 +42,7 @@ pub record Asked {E M : Type 0} (R : RingOn M) (means : E → M) (S : Sheet M) (
   pub performs : perform R S c ≡ A
   pub replies : (v : Var M) → reply c v ≡ accepted (show v)
 
-module _ {E M : Type 0} (R : RingOn M) (means : E → M) (o : Builder) (cs : List E) (ns : List CircuitNode) (qs : List (CircuitIdx × CircuitIdx)) where
+module _ {E M : Type 0} (R : RingOn M) (means : E → M) (o : Builder) (f : Bool) (cs : List E) (ns : List CircuitNode) (qs : List (CircuitIdx × CircuitIdx)) where
   abbrev cap : Counts
   cap = o.capacity
 
@@ -55,24 +55,28 @@ module _ {E M : Type 0} (R : RingOn M) (means : E → M) (o : Builder) (cs : Lis
   abbrev S : Sheet M
   S = sheet_in means n cs ns qs
 
-  long : short cap cs ns qs ≡ false → (cap.constants ≤ length cs) × (cap.nodes ≤ length ns) × (cap.assertions ≤ length qs)
+  -- some table that the call needs is short
+  abbrev lacks : Bool
+  lacks = f || short cap cs ns qs
+
+  long : lacks ≡ false → (cap.constants ≤ length cs) × (cap.nodes ≤ length ns) × (cap.assertions ≤ length qs)
   long h =
-      let a = or_parts (ltb (length cs) cap.constants) _ h in
+      let a = or_parts (ltb (length cs) cap.constants) _ (or_parts f _ h).1 in
       let b = or_parts (ltb (length ns) cap.nodes) _ a.1 in
       (ltb-false _ _ a.0, ltb-false _ _ b.0, ltb-false _ _ b.1)
 
-  sizes_are : short cap cs ns qs ≡ false → sizes S ≡ n
+  sizes_are : lacks ≡ false → sizes S ≡ n
   sizes_are h =
       let l = long h in
       same_counts _ _ (length-map (take n.constants cs) means ∙ length-take-le n.constants cs (omega arith)) refl (length-take-le n.nodes ns (omega arith)) (length-take-le n.assertions qs (omega arith))
 
-  known_one : short cap cs ns qs ≡ false → (v : Var E) → known_by n v ≡ known S (var_means means v)
+  known_one : lacks ≡ false → (v : Var E) → known_by n v ≡ known S (var_means means v)
   known_one h (Native x) = refl
   known_one h (Circuit (Constant k)) = ap (ltb k) (sym (ap (λ (m : Counts). m.constants) (sizes_are h)))
   known_one h (Circuit (Witness w)) = refl
   known_one h (Circuit (Node m)) = ap (ltb m) (sym (ap (λ (j : Counts). j.nodes) (sizes_are h)))
 
-  pub known_all : short cap cs ns qs ≡ false → (vs : List (Var E)) → all_by n vs ≡ all_known S (map (var_means means) vs)
+  pub known_all : lacks ≡ false → (vs : List (Var E)) → all_by n vs ≡ all_known S (map (var_means means) vs)
   known_all h [] = refl
   known_all h (v ∷ vs) = ap (λ b. b && all_by n vs) (known_one h v) ∙ ap (λ b. known S (var_means means v) && b) (known_all h vs)
 
@@ -81,7 +85,7 @@ module _ {E M : Type 0} (R : RingOn M) (means : E → M) (o : Builder) (cs : Lis
     tests b = causes cap n b (all_by n vs) clash more
 
     -- the tests as code has made them
-    as_tested : (a : Option ℕ) (b k : Bool) (m : Counts) → b ≡ short cap cs ns qs → k ≡ all_by n vs → m ≡ more → refusal (causes cap n b k clash m) ≡ a → refusal (tests (short cap cs ns qs)) ≡ a
+    as_tested : (a : Option ℕ) (b k : Bool) (m : Counts) → b ≡ lacks → k ≡ all_by n vs → m ≡ more → refusal (causes cap n b k clash m) ≡ a → refusal (tests lacks) ≡ a
     as_tested a b k m p q r e =
         ap (λ x. refusal (causes cap n x (all_by n vs) clash more)) (sym p)
         ∙ ap (λ x. refusal (causes cap n b x clash more)) (sym q)
@@ -89,17 +93,17 @@ module _ {E M : Type 0} (R : RingOn M) (means : E → M) (o : Builder) (cs : Lis
         ∙ e
 
     -- b, k and m are what code has found of the tables, the operands and the cost
-    module _ (b k : Bool) (m : Counts) (p : b ≡ short cap cs ns qs) (q : k ≡ all_by n vs) (r : m ≡ more) (e : refusal (causes cap n b k clash m) ≡ None) where
-      passed : (short cap cs ns qs ≡ false) × (all_by n vs ≡ true) × ((sum n more).constants ≤ cap.constants) × ((sum n more).witnesses ≤ cap.witnesses) × ((sum n more).nodes ≤ cap.nodes) × ((sum n more).assertions ≤ cap.assertions) × (clash ≡ false)
+    module _ (b k : Bool) (m : Counts) (p : b ≡ lacks) (q : k ≡ all_by n vs) (r : m ≡ more) (e : refusal (causes cap n b k clash m) ≡ None) where
+      passed : (lacks ≡ false) × (all_by n vs ≡ true) × ((sum n more).constants ≤ cap.constants) × ((sum n more).witnesses ≤ cap.witnesses) × ((sum n more).nodes ≤ cap.nodes) × ((sum n more).assertions ≤ cap.assertions) × (clash ≡ false)
       passed =
-          let h = clear (tests (short cap cs ns qs)) (as_tested None b k m p q r e) in
+          let h = clear (tests lacks) (as_tested None b k m p q r e) in
           (h.0, not-false _ h.1.0, ltb-false _ _ h.1.1.1.0, ltb-false _ _ h.1.1.1.1.0, ltb-false _ _ h.1.1.1.1.1.0, ltb-false _ _ h.1.1.1.1.1.1.0, h.1.1.0)
 
       -- every operand is known
       pub operands_known : all_by n vs ≡ true
       operands_known = passed.1
 
-      pub room : (t : Tables E) → t.counts ≡ n → t.constants.now ≡ cs → t.nodes.now ≡ ns → t.assertions.now ≡ qs → Room t more
+      pub room : (t : Draft E) → t.counts ≡ n → t.constants.now ≡ cs → t.nodes.now ≡ ns → t.assertions.now ≡ qs → Room t more
       room t is_n is_cs is_ns is_qs =
           let h = passed in
           let small = o.small in
@@ -127,10 +131,10 @@ module _ {E M : Type 0} (R : RingOn M) (means : E → M) (o : Builder) (cs : Lis
     clash_is : clash ≡ clashes R c
     clash_is = asked.clash_is
 
-    total : short cap cs ns qs ≡ false → sizes (perform R S c).0 ≡ sum n more
+    total : lacks ≡ false → sizes (perform R S c).0 ≡ sum n more
     total h = ap (λ (B : Answered M). sizes B.0) asked.performs ∙ asked.sized ∙ ap (λ m. sum m more) (sizes_are h)
 
-    same_causes : short cap cs ns qs ≡ false → tests vs clash more false ≡ (false, 2) ∷ call_causes R cap S c
+    same_causes : lacks ≡ false → tests vs clash more false ≡ (false, 2) ∷ call_causes R cap S c
     same_causes h =
         let t = total h in
         let T = (perform R S c).0 in
@@ -139,10 +143,10 @@ module _ {E M : Type 0} (R : RingOn M) (means : E → M) (o : Builder) (cs : Lis
         ∙ ap (λ b. causes cap n false (all_known S (operands c)) b more) clash_is
         ∙ ap (λ (m : Counts). (false, 2) ∷ ((not (all_known S (operands c)), 3) ∷ ((clashes R c, 4) ∷ ((ltb cap.constants m.constants, 5) ∷ ((ltb cap.witnesses m.witnesses, 6) ∷ ((ltb cap.nodes m.nodes, 7) ∷ ((ltb cap.assertions m.assertions, 8) ∷ []))))))) (sym t)
 
-    short_is : (b : Bool) → short cap cs ns qs ≡ b → refusal (tests vs clash more (short cap cs ns qs)) ≡ refusal (tests vs clash more b)
+    short_is : (b : Bool) → lacks ≡ b → refusal (tests vs clash more lacks) ≡ refusal (tests vs clash more b)
     short_is b e = ap (λ x. refusal (tests vs clash more x)) e
 
-    refused_with : (k : ℕ) → refusal (tests vs clash more (short cap cs ns qs)) ≡ Some k → Called R means cap n n cs cs ns ns qs qs c (refused k)
+    refused_with : (k : ℕ) → refusal (tests vs clash more lacks) ≡ Some k → Called R means cap n n f cs cs ns ns qs qs c (refused k)
     refused_with k e = record {
       too_short = λ s. let q : Some 2 ≡ Some k = sym (short_is true s) ∙ e in let r : 2 ≡ k = cc in ap refused (sym r);
       stepped = λ s.
@@ -153,13 +157,13 @@ module _ {E M : Type 0} (R : RingOn M) (means : E → M) (o : Builder) (cs : Lis
       spare = (refl, refl, refl);
     }
 
-    module _ (b k : Bool) (m : Counts) (p : b ≡ short cap cs ns qs) (q : k ≡ all_by n vs) (r : m ≡ more) where
-      pub refused_call : (j : ℕ) → refusal (causes cap n b k clash m) ≡ Some j → Called R means cap n n cs cs ns ns qs qs c (refused j)
+    module _ (b k : Bool) (m : Counts) (p : b ≡ lacks) (q : k ≡ all_by n vs) (r : m ≡ more) where
+      pub refused_call : (j : ℕ) → refusal (causes cap n b k clash m) ≡ Some j → Called R means cap n n f cs cs ns ns qs qs c (refused j)
       refused_call j e = refused_with j (as_tested vs clash more (Some j) b k m p q r e)
 
       module _ (e : refusal (causes cap n b k clash m) ≡ None) where
         -- t and t' are the tables before and after, of which the caller's are cs', ns' and qs'
-        pub accepted_call : (t t' : Tables E) (v : Var E) → t.constants.now ≡ cs → t.nodes.now ≡ ns → t.assertions.now ≡ qs → Grew means t t' more A.0 → var_means means v ≡ A.1 → (cs' : List E) (ns' : List CircuitNode) (qs' : List (CircuitIdx × CircuitIdx)) → cs' ≡ t'.constants.now → ns' ≡ t'.nodes.now → qs' ≡ t'.assertions.now → Called R means cap n t'.counts cs cs' ns ns' qs qs' c (accepted (show (var_means means v)))
+        pub accepted_call : (t t' : Draft E) (v : Var E) → t.constants.now ≡ cs → t.nodes.now ≡ ns → t.assertions.now ≡ qs → Grew means t t' more A.0 → var_means means v ≡ A.1 → (cs' : List E) (ns' : List CircuitNode) (qs' : List (CircuitIdx × CircuitIdx)) → cs' ≡ t'.constants.now → ns' ≡ t'.nodes.now → qs' ≡ t'.assertions.now → Called R means cap n t'.counts f cs cs' ns ns' qs qs' c (accepted (show (var_means means v)))
         accepted_call t t' v is_cs is_ns is_qs grew answer cs' ns' qs' to_cs to_ns to_qs =
             let h = passed vs clash more b k m p q r e in
             let sum_is_lem = total h.0 in
@@ -190,9 +194,9 @@ module _ {E M : Type 0} (R : RingOn M) (means : E → M) (o : Builder) (cs : Lis
             }
 
   -- a call of natives that appends nothing, and answers v
-  pub answered_call : (c : Call R verifier) (A : Answered M) (show : Var M → Option (Var M)) → (vs : List (Var E)) → all_by n vs ≡ true → Asked R means S c vs false (counts 0 0 0 0) A show → A.0 ≡ S → (v : Var E) → var_means means v ≡ A.1 → (r : Result (Var E) Refusal) → r ≡ cond (short cap cs ns qs) (Err ShortTable) (Ok v) → Called R means cap n n cs cs ns ns qs qs c (outcome (λ u. show (var_means means u)) r)
+  pub answered_call : (c : Call R verifier) (A : Answered M) (show : Var M → Option (Var M)) → (vs : List (Var E)) → all_by n vs ≡ true → Asked R means S c vs false (counts 0 0 0 0) A show → A.0 ≡ S → (v : Var E) → var_means means v ≡ A.1 → (r : Result (Var E) Refusal) → r ≡ cond lacks (Err ShortTable) (Ok v) → Called R means cap n n f cs cs ns ns qs qs c (outcome (λ u. show (var_means means u)) r)
   answered_call c A show vs known asked same v answer r is =
-      elim (cases_Bool (short cap cs ns qs)) [
+      elim (cases_Bool lacks) [
         | inl s ↦
             let r_is : r ≡ Err ShortTable = is ∙ cond-true _ _ _ s in
             rw r_is (refused_with c vs false (counts 0 0 0 0) A show asked 2 (ap (λ b. refusal (tests vs false (counts 0 0 0 0) b)) s))

@@ -8,7 +8,7 @@ use Rattle.worksheet.specs.declared.Var.{Var}
 use Rattle.worksheet.specs.declared.Var.TheVariants.{Native, Circuit}
 use Rattle.worksheet.specs.Sheet.{Sheet}
 use Rattle.worksheet.specs.Calls.{Answered, var_means}
-use Rattle.builder.specs.declared.Tables.{Tables}
+use Rattle.builder.specs.declared.Draft.{Draft}
 use Rattle.builder.specs.declared.cost.Cost.{Cost}
 use Rattle.builder.specs.declared.cost.Kind.{Kind}
 use Rattle.builder.specs.Cost.{after, kind_of}
@@ -25,7 +25,7 @@ further xs ys m n le e =
     let split : n ≡ m + (n - m) = omega arith in
     ap (λ k. drop k xs) split ∙ sym (drop-drop (n - m) m xs) ∙ ap (drop (n - m)) e ∙ drop-drop (n - m) m ys ∙ ap (λ k. drop k ys) (sym split)
 
-module _ {E : Type 0} (a b c : Tables E) where
+module _ {E : Type 0} (a b c : Draft E) where
   pub kept_on : b.counts.constants ≤ c.counts.constants → b.counts.nodes ≤ c.counts.nodes → b.counts.assertions ≤ c.counts.assertions → Kept a b → Kept b c → Kept a c
   kept_on p q r h k = record {
     constants = k.constants ∙ further b.constants.now a.constants.now b.counts.constants c.counts.constants p h.constants;
@@ -39,7 +39,7 @@ module _ {E : Type 0} (a b c : Tables E) where
     lent_assertions = k.lent_assertions ∙ h.lent_assertions;
   }
 
-module _ {E M : Type 0} (means : E → M) (a b : Tables E) where
+module _ {E M : Type 0} (means : E → M) (a b : Draft E) where
   -- room for n and m is room for n, and then for m
   pub room_first : (n m : Counts) → Room a (sum n m) → Room a n
   room_first n m r =
@@ -64,7 +64,7 @@ module _ {E M : Type 0} (means : E → M) (a b : Tables E) where
       let la = h.kept.long_assertions in
       record { small = (omega arith, omega arith, omega arith, omega arith); constants = omega arith; nodes = omega arith; assertions = omega arith }
 
-  pub grew_on : (c : Tables E) (n m : Counts) (S T : Sheet M) → Grew means a b n S → Grew means b c m T → Grew means a c (sum n m) T
+  pub grew_on : (c : Draft E) (n m : Counts) (S T : Sheet M) → Grew means a b n S → Grew means b c m T → Grew means a c (sum n m) T
   grew_on c n m S T h k =
       let nc = ap (λ (j : Counts). j.constants) k.counts in
       let nn = ap (λ (j : Counts). j.nodes) k.counts in
@@ -89,7 +89,7 @@ module _ {E M : Type 0} (means : E → M) (a b : Tables E) where
   wrote_cost {n} {m} {A} {v} e h = subst (λ (k : Cost). Wrote means a b k A v) e h
 
   -- a second write on the worksheet and the answer of the first
-  pub wrote_on : (c : Tables E) (n : Cost) (m : Kind → Cost) (A : Answered M) (F : Sheet M → Var M → Answered M) (v w : Var E) → Wrote means a b n A v → Wrote means b c (m (kind_of v)) (F (sheet_of means b) (var_means means v)) w → Wrote means a c (after n.counts (m n.kind)) (F A.0 A.1) w
+  pub wrote_on : (c : Draft E) (n : Cost) (m : Kind → Cost) (A : Answered M) (F : Sheet M → Var M → Answered M) (v w : Var E) → Wrote means a b n A v → Wrote means b c (m (kind_of v)) (F (sheet_of means b) (var_means means v)) w → Wrote means a c (after n.counts (m n.kind)) (F A.0 A.1) w
   wrote_on c n m A F v w h k =
       let k₁ = subst (λ (S : Sheet M). Wrote means b c (m (kind_of v)) (F S (var_means means v)) w) h.grew.sheet k in
       let k₂ = subst (λ (x : Var M). Wrote means b c (m (kind_of v)) (F A.0 x) w) h.answer k₁ in
@@ -97,7 +97,7 @@ module _ {E M : Type 0} (means : E → M) (a b : Tables E) where
       record { grew = grew_on c n.counts (m n.kind).counts A.0 (F A.0 A.1).0 h.grew k₃.grew; answer = k₃.answer; kind = k₃.kind; there = k₃.there }
 
   -- a second write that has no answer
-  pub grew_after : (c : Tables E) (n : Cost) (m : Kind → Counts) (A : Answered M) (F : Sheet M → Var M → Sheet M) (v : Var E) → Wrote means a b n A v → Grew means b c (m (kind_of v)) (F (sheet_of means b) (var_means means v)) → Grew means a c (sum n.counts (m n.kind)) (F A.0 A.1)
+  pub grew_after : (c : Draft E) (n : Cost) (m : Kind → Counts) (A : Answered M) (F : Sheet M → Var M → Sheet M) (v : Var E) → Wrote means a b n A v → Grew means b c (m (kind_of v)) (F (sheet_of means b) (var_means means v)) → Grew means a c (sum n.counts (m n.kind)) (F A.0 A.1)
   grew_after c n m A F v h k =
       let k₁ = subst (λ (S : Sheet M). Grew means b c (m (kind_of v)) (F S (var_means means v))) h.grew.sheet k in
       let k₂ = subst (λ (x : Var M). Grew means b c (m (kind_of v)) (F A.0 x)) h.answer k₁ in
@@ -107,12 +107,12 @@ pub same_id : {M : Type 0} (i j : CircuitIdx) → ◌≡◌ {A = Var M} (Circuit
 same_id i j e = cc
 
 -- the same where the first answers an id
-pub wrote_id_on : {E M : Type 0} (means : E → M) (a b c : Tables E) (n : Cost) (m : CircuitIdx → Cost) (A : Answered M) (F : Sheet M → CircuitIdx → Answered M) (i j : CircuitIdx) (w : Var E) → Wrote means a b n A (Circuit i) → A.1 ≡ Circuit j → Wrote means b c (m i) (F (sheet_of means b) i) w → Wrote means a c (after n.counts (m j)) (F A.0 j) w
+pub wrote_id_on : {E M : Type 0} (means : E → M) (a b c : Draft E) (n : Cost) (m : CircuitIdx → Cost) (A : Answered M) (F : Sheet M → CircuitIdx → Answered M) (i j : CircuitIdx) (w : Var E) → Wrote means a b n A (Circuit i) → A.1 ≡ Circuit j → Wrote means b c (m i) (F (sheet_of means b) i) w → Wrote means a c (after n.counts (m j)) (F A.0 j) w
 wrote_id_on means a b c n m A F i j w h e k =
     let k' = subst (λ (x : CircuitIdx). Wrote means b c (m x) (F A.0 x) w) (same_id i j (h.answer ∙ e)) (subst (λ (S : Sheet _). Wrote means b c (m i) (F S i) w) h.grew.sheet k) in
     record { grew = grew_on means a b c n.counts (m j).counts A.0 (F A.0 j).0 h.grew k'.grew; answer = k'.answer; kind = k'.kind; there = k'.there }
 
-pub grew_id_on : {E M : Type 0} (means : E → M) (a b c : Tables E) (n : Cost) (m : Counts) (A : Answered M) (F : Sheet M → CircuitIdx → Sheet M) (i j : CircuitIdx) → Wrote means a b n A (Circuit i) → A.1 ≡ Circuit j → Grew means b c m (F (sheet_of means b) i) → Grew means a c (sum n.counts m) (F A.0 j)
+pub grew_id_on : {E M : Type 0} (means : E → M) (a b c : Draft E) (n : Cost) (m : Counts) (A : Answered M) (F : Sheet M → CircuitIdx → Sheet M) (i j : CircuitIdx) → Wrote means a b n A (Circuit i) → A.1 ≡ Circuit j → Grew means b c m (F (sheet_of means b) i) → Grew means a c (sum n.counts m) (F A.0 j)
 grew_id_on means a b c n m A F i j h e k =
     grew_on means a b c n.counts m A.0 (F A.0 j) h.grew
     (subst (λ (x : CircuitIdx). Grew means b c m (F A.0 x)) (same_id i j (h.answer ∙ e)) (subst (λ (S : Sheet _). Grew means b c m (F S i)) h.grew.sheet k))

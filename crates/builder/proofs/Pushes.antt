@@ -9,7 +9,7 @@ use Rattle.worksheet.specs.declared.Counts.{Counts}
 use Rattle.worksheet.specs.declared.Var.TheVariants.{Circuit}
 use Rattle.worksheet.specs.Sheet.{Sheet}
 use Rattle.worksheet.specs.Calls.{push_constant, push_witness, push_node, push_assertion}
-use Rattle.builder.specs.declared.Tables.{Tables}
+use Rattle.builder.specs.declared.Draft.{Draft}
 use Rattle.builder.specs.Cost.{counts, constant_cost, witness_cost, node_cost}
 use Rattle.builder.specs.Tables.{sheet_of, Room, Grew, Wrote}
 
@@ -40,7 +40,7 @@ module _ {X : Type 0} (t t' : List X) (n : ℕ) (x : X) (lt : n < length t) (is 
   pub long : length t' ≡ length t
   long = ap length is ∙ length-set t n x
 
-module _ {E M : Type 0} (means : E → M) (was is : Tables E) where
+module _ {E M : Type 0} (means : E → M) (was is : Draft E) where
   pub constant_pushed : (x : E) → Room was (counts 1 0 0 0) → is.constants.now ≡ set was.constants.now was.counts.constants x → is.constants.ghost_name ≡ was.constants.ghost_name → is.nodes ≡ was.nodes → is.assertions ≡ was.assertions → is.counts ≡ counts (was.counts.constants + 1) was.counts.witnesses was.counts.nodes was.counts.assertions → Wrote means was is constant_cost (push_constant (sheet_of means was) (means x)) (Circuit (Constant was.counts.constants))
   constant_pushed x room set_it lent nodes assertions is_counts =
       let n = was.counts in

@@ -1,11 +1,12 @@
 -- A builder call as a value: its operands, its cost, what it appends and answers, and which calls of the definition it stands for.
 use Rattle.std.specs.Prelude.{◌≡◌, Bool, false, List, [], ◌∷◌, Some, None, Option}
 use Rattle.ring.specs.Algebra.{RingOn, FieldOf}
+use Rattle.worksheet.specs.declared.CircuitIdx.{CircuitIdx}
 use Rattle.worksheet.specs.declared.Var.{Var}
 use Rattle.worksheet.specs.declared.Var.TheVariants.{Native, Circuit}
 use Rattle.worksheet.specs.Sheet.{Sheet}
 use Rattle.worksheet.specs.Calls.{Answered, var_means, push_constant, push_witness, plus_op, times_op, operate, negated, subtracted, asserted, quotient, squared, either, selected}
-use Rattle.worksheet.specs.Runs.{verifier, Call, constant, witness, add, multiply, negate, subtract, divide, invert, assert_equal, boolean_witness, boolean_assert, boolean_not, boolean_and, boolean_or, select, Settled, native_square, natives_differ}
+use Rattle.worksheet.specs.Runs.{prover, verifier, Call, erase, bit, constant, witness, add, multiply, negate, subtract, divide, invert, assert_equal, boolean_witness, boolean_assert, boolean_not, boolean_and, boolean_or, select, Settled, native_square, natives_differ}
 use Rattle.builder.specs.declared.cost.Cost.{Cost}
 use Rattle.builder.specs.declared.cost.Kind.TheVariants.{Native as native_kind}
 use Rattle.builder.specs.declared.Request.{Request}
@@ -86,26 +87,6 @@ module _ {E M : Type 0} (R : RingOn M) (means : E → M) where
   shown (Or a b) v = Some v
   shown (Select b t f) v = Some v
 
-  -- P of the call that the request stands for: natives that are asserted equal come with their comparison,
-  -- and a quotient of an id is the same whatever the field's inverses are
-  abbrev pub Of : Request E → (Call R verifier → Type 0) → Type 0
-  Of (Constant x) P = P (constant (means x))
-  Of Witness P = P (witness tt)
-  Of (Add a b) P = P (add (var_means means a) (var_means means b))
-  Of (Multiply a b) P = P (multiply (var_means means a) (var_means means b))
-  Of (Negate a) P = P (negate (var_means means a))
-  Of (Subtract a b) P = P (subtract (var_means means a) (var_means means b))
-  Of (DivideBy a i) P = (F : FieldOf R) → P (divide F (var_means means a) (Circuit i))
-  Of (DivideId i y) P = (F : FieldOf R) → P (divide F (Circuit i) (Native (means y)))
-  Of (Invert i) P = (F : FieldOf R) → P (invert F (Circuit i))
-  Of (AssertEqual a b) P = (d : Settled (var_means means a) (var_means means b)) × P (assert_equal (var_means means a) (var_means means b) d)
-  Of BooleanWitness P = P (boolean_witness tt)
-  Of (BooleanAssert a) P = (d : Settled (native_square R (var_means means a)) (var_means means a)) × P (boolean_assert (var_means means a) d)
-  Of (Not a) P = P (boolean_not (var_means means a))
-  Of (And a b) P = P (boolean_and (var_means means a) (var_means means b))
-  Of (Or a b) P = P (boolean_or (var_means means a) (var_means means b))
-  Of (Select b t f) P = P (select (var_means means b) (var_means means t) (var_means means f))
-
   -- b says whether the request asserts unequal natives equal
   abbrev pub Clash : Request E → Bool → Type 0
   Clash (Constant x) b = b ≡ false
@@ -124,3 +105,37 @@ module _ {E M : Type 0} (R : RingOn M) (means : E → M) where
   Clash (And x y) b = b ≡ false
   Clash (Or x y) b = b ≡ false
   Clash (Select x y z) b = b ≡ false
+
+-- P of a comparison, whichever it is, and that there is one
+abbrev pub Compared : (A : Type 0) → (A → Type 0) → Type 0
+Compared A P = A × ((d : A) → P d)
+
+-- a variable's value, where ids have the values val
+abbrev pub worth : {M : Type 0} → (CircuitIdx → M) → Var M → M
+worth val (Native x) = x
+worth val (Circuit a) = val a
+
+-- P of each call that the request stands for, where ids have the values val: natives that are asserted equal are
+-- compared, and a new witness has a value that it may be handed
+module _ {E M : Type 0} (R : RingOn M) (means : E → M) (val : CircuitIdx → M) (Hands : M → Type 0) where
+  abbrev pub Of : Request E → (Call R prover → Type 0) → Type 0
+  Of (Constant y) P = P (constant (means y))
+  Of Witness P = (x : M) → Hands x → P (witness x)
+  Of (Add a b) P = P (add (var_means means a) (var_means means b))
+  Of (Multiply a b) P = P (multiply (var_means means a) (var_means means b))
+  Of (Negate a) P = P (negate (var_means means a))
+  Of (Subtract a b) P = P (subtract (var_means means a) (var_means means b))
+  Of (DivideBy a i) P = (F : FieldOf R) → Hands (R.times (worth val (var_means means a)) (F.inverse (val i))) → P (divide F (var_means means a) (Circuit i))
+  Of (DivideId i y) P = (F : FieldOf R) → Hands (R.times (val i) (F.inverse (means y))) → P (divide F (Circuit i) (Native (means y)))
+  Of (Invert i) P = (F : FieldOf R) → Hands (F.inverse (val i)) → P (invert F (Circuit i))
+  Of (AssertEqual a b) P = Compared (Settled (var_means means a) (var_means means b)) (λ d. P (assert_equal (var_means means a) (var_means means b) d))
+  Of BooleanWitness P = (b : Bool) → Hands (bit R b) → P (boolean_witness b)
+  Of (BooleanAssert a) P = Compared (Settled (native_square R (var_means means a)) (var_means means a)) (λ d. P (boolean_assert (var_means means a) d))
+  Of (Not a) P = P (boolean_not (var_means means a))
+  Of (And a b) P = P (boolean_and (var_means means a) (var_means means b))
+  Of (Or a b) P = P (boolean_or (var_means means a) (var_means means b))
+  Of (Select b t f) P = P (select (var_means means b) (var_means means t) (var_means means f))
+
+-- P of a verifier's: no value is looked at
+abbrev pub OfStructure : {E M : Type 0} (R : RingOn M) (means : E → M) → Request E → (Call R verifier → Type 0) → Type 0
+OfStructure R means q P = Of R means (λ _. R.nought) (λ _. Unit {0}) q (λ c. P (erase c))

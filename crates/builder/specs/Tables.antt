@@ -8,7 +8,7 @@ use Rattle.worksheet.specs.declared.Var.{Var}
 use Rattle.worksheet.specs.declared.Var.TheVariants.{Native, Circuit}
 use Rattle.worksheet.specs.Sheet.{Sheet}
 use Rattle.worksheet.specs.Calls.{Answered, var_means, Op, plus_op, times_op}
-use Rattle.builder.specs.declared.Tables.{Tables}
+use Rattle.builder.specs.declared.Draft.{Draft}
 use Rattle.builder.specs.declared.Op.{Op as Operation}
 use Rattle.builder.specs.declared.Op.TheVariants.{Add, Multiply}
 use Rattle.builder.specs.declared.cost.Cost.{Cost}
@@ -28,11 +28,11 @@ sheet_in means n cs ns qs = record {
   assertions = take n.assertions qs;
 }
 
-abbrev pub sheet_of : {E M : Type 0} → (E → M) → Tables E → Sheet M
+abbrev pub sheet_of : {E M : Type 0} → (E → M) → Draft E → Sheet M
 sheet_of means t = sheet_in means t.counts t.constants.now t.nodes.now t.assertions.now
 
 -- the counts and n more are small and within the tables
-pub record Room {E : Type 0} (t : Tables E) (n : Counts) : Type 0 where
+pub record Room {E : Type 0} (t : Draft E) (n : Counts) : Type 0 where
   pub small : Small (sum t.counts n)
   pub constants : t.counts.constants + n.constants ≤ length t.constants.now
   pub nodes : t.counts.nodes + n.nodes ≤ length t.nodes.now
@@ -53,7 +53,7 @@ AllThere n [] = Unit {0}
 AllThere n (v ∷ vs) = There n v × AllThere n vs
 
 -- the tables are the same memory, as long as they were, and past the counts they hold what they held
-pub record Kept {E : Type 0} (was is : Tables E) : Type 0 where
+pub record Kept {E : Type 0} (was is : Draft E) : Type 0 where
   pub constants : drop is.counts.constants is.constants.now ≡ drop is.counts.constants was.constants.now
   pub nodes : drop is.counts.nodes is.nodes.now ≡ drop is.counts.nodes was.nodes.now
   pub assertions : drop is.counts.assertions is.assertions.now ≡ drop is.counts.assertions was.assertions.now
@@ -65,13 +65,13 @@ pub record Kept {E : Type 0} (was is : Tables E) : Type 0 where
   pub lent_assertions : is.assertions.ghost_name ≡ was.assertions.ghost_name
 
 -- a worksheet and n entries more: S
-pub record Grew {E M : Type 0} (means : E → M) (was is : Tables E) (n : Counts) (S : Sheet M) : Type 0 where
+pub record Grew {E M : Type 0} (means : E → M) (was is : Draft E) (n : Counts) (S : Sheet M) : Type 0 where
   pub sheet : sheet_of means is ≡ S
   pub counts : is.counts ≡ sum was.counts n
   pub kept : Kept was is
 
 -- and an answer, at a cost
-pub record Wrote {E M : Type 0} (means : E → M) (was is : Tables E) (c : Cost) (A : Answered M) (v : Var E) : Type 0 where
+pub record Wrote {E M : Type 0} (means : E → M) (was is : Draft E) (c : Cost) (A : Answered M) (v : Var E) : Type 0 where
   pub grew : Grew means was is c.counts A.0
   pub answer : var_means means v ≡ A.1
   pub kind : kind_of v ≡ c.kind

@@ -1,11 +1,12 @@
 // Whether a call is refused, and with what, before anything is written.
-ghost use Rattle.std.specs.Prelude.{◌≡◌, ◌+◌, ◌≤◌, Bool, not, ◌||◌, [], ◌∷◌, Some, None, MatchResult, nat_lt};
+ghost use Rattle.std.specs.Prelude.{◌≡◌, ◌+◌, ◌≤◌, ◌||◌, Some, None, MatchResult, nat_lt};
 ghost use Rattle.refusal.specs.Number.{number_of};
 ghost use Rattle.worksheet.specs.Runs.{refusal as first_refusal};
-ghost use Rattle.builder.specs.Admission.{causes, known_by, all_by};
+ghost use Rattle.builder.specs.Admission.{causes, known_by};
+ghost use Rattle.builder.specs.Called.{short};
 ghost use Rattle.builder.specs.Cost.{Few};
 
-use super::Builder;
+use super::{Builder, Tables};
 use refusal::Refusal;
 use worksheet::{CircuitIdx, Counts, Var};
 
@@ -17,17 +18,15 @@ fn exceeds(capacity: u32, count: u32, more: u32) -> bool
 }
 
 impl Builder {
-    // Whether a table is shorter than its capacity.
-    pub(super) fn is_short(&self, constants: usize, nodes: usize, assertions: usize) -> bool
-        ensures { result ≡ (nat_lt constants self.now.capacity.constants || (nat_lt nodes self.now.capacity.nodes || nat_lt assertions self.now.capacity.assertions)) }
+    // Whether a table that a call needs is short.
+    pub(super) fn lacks<E>(&self, tables: &Tables<'_, E>, lacking: bool) -> bool
+        ensures { result ≡ (lacking || short self.now.capacity tables.now.constants.now tables.now.nodes.now tables.now.assertions.now) }
     {
-        constants < self.capacity.constants as usize
-            || nodes < self.capacity.nodes as usize
-            || assertions < self.capacity.assertions as usize
+        lacking || tables.are_short(self.capacity)
     }
 
     // Whether a variable is native, or an id of the worksheet.
-    fn knows<E: Copy>(&self, v: Var<E>) -> bool
+    pub(super) fn knows<E: Copy>(&self, v: Var<E>) -> bool
         ensures { result ≡ known_by self.now.counts v }
     {
         match v {
@@ -36,24 +35,6 @@ impl Builder {
             Var::Circuit(CircuitIdx::Witness(w)) => w < self.counts.witnesses,
             Var::Circuit(CircuitIdx::Node(n)) => n < self.counts.nodes,
         }
-    }
-
-    pub(super) fn knows_one<E: Copy>(&self, a: Var<E>) -> bool
-        ensures { result ≡ all_by self.now.counts (a ∷ []) }
-    {
-        self.knows(a)
-    }
-
-    pub(super) fn knows_two<E: Copy>(&self, a: Var<E>, b: Var<E>) -> bool
-        ensures { result ≡ all_by self.now.counts (a ∷ (b ∷ [])) }
-    {
-        self.knows(a) && self.knows(b)
-    }
-
-    pub(super) fn knows_three<E: Copy>(&self, a: Var<E>, b: Var<E>, c: Var<E>) -> bool
-        ensures { result ≡ all_by self.now.counts (a ∷ (b ∷ (c ∷ []))) }
-    {
-        self.knows(a) && self.knows_two(b, c)
     }
 
     // Refuses a call on tables of which some are short, that names an id that is absent, that asserts

@@ -1,18 +1,16 @@
-// Variables that are zero or one.
-ghost use Rattle.std.specs.Prelude.{◌≡◌};
+// Variables that are zero or one, and the builder calls on them, for every role.
+ghost use Rattle.std.specs.Prelude.{◌≡◌, Some, None};
 ghost use Rattle.refusal.specs.Outcome.{outcome};
 ghost use Rattle.worksheet.specs.declared.Var.TheVariants.{Native};
 ghost use Rattle.worksheet.specs.Calls.{var_means};
-ghost use Rattle.worksheet.specs.Runs.{bit};
+ghost use Rattle.worksheet.specs.Runs.{bit, assert_equal as assert_call, boolean_assert as boolean_assert_call, boolean_not as boolean_not_call, boolean_and as boolean_and_call, boolean_or as boolean_or_call, select as select_call, Settled, native_square};
 ghost use Rattle.builder.specs.Booleans.{request_of};
-ghost use Rattle.builder.specs.Called.{Called};
-ghost use Rattle.builder.specs.Requests.{Of, shown};
-ghost use Rattle.builder.specs.Within.{Within};
+ghost use Rattle.builder.specs.Requests.{Of, Compared, shown};
 
-use super::{BoolRequest, BoolVar, Builder, Request};
+use super::{BoolRequest, BoolVar, Open, Request, Role};
 use refusal::Refusal;
 use ring::Ring;
-use worksheet::{CircuitIdx, CircuitNode, Var};
+use worksheet::Var;
 
 impl<E: Ring> BoolVar<E> {
     // Native one or zero.
@@ -44,22 +42,98 @@ fn request_of<E: Copy>(request: BoolRequest<E>) -> Request<E>
     }
 }
 
-impl Builder {
-    // Makes a call that answers a variable that is zero or one.
-    pub fn boolean<E: Ring>(
+impl<R> Open<R> {
+    // Makes a call that answers a variable that is zero or one. A witness that it appends is handed `fresh`.
+    pub fn boolean<E: Ring, T>(
         &mut self,
-        constants: &mut [E],
-        nodes: &mut [CircuitNode],
-        assertions: &mut [(CircuitIdx, CircuitIdx)],
+        tables: &mut T,
         request: BoolRequest<E>,
+        fresh: E,
     ) -> Result<BoolVar<E>, Refusal>
-        ensures called { Of E.algebra E.means (request_of request) (λ c. Called E.algebra E.means self.old.capacity self.old.counts self.new.counts constants.old constants.new nodes.old nodes.new assertions.old assertions.new c (outcome (λ v. shown E.algebra E.means (request_of request) (var_means E.means v.var)) result)) }
-        ensures capacity { self.new.capacity ≡ self.old.capacity }
-        ensures grows { Within self.old.counts self.new.counts }
+    where
+        R: Role<E, T>,
+        ensures { Of E.algebra E.means (R.values E.Member E.algebra E.means self.old.builder tables.old) (R.Hands E.Member (E.means fresh)) (request_of request) (λ c. R.Does E.Member E.algebra E.means self.old.builder self.new.builder tables.old tables.new c (outcome (λ v. shown E.algebra E.means (request_of request) (var_means E.means v.var)) result)) }
     {
-        match self.call(constants, nodes, assertions, request_of(request)) {
-            Ok(var) => Ok(BoolVar { var }),
-            Err(refusal) => Err(refusal),
-        }
+        let var = self.call(tables, request_of(request), fresh)?;
+        Ok(BoolVar { var })
+    }
+
+    // Asserts that a is zero or one.
+    pub fn boolean_assert<E: Ring, T>(
+        &mut self,
+        tables: &mut T,
+        a: Var<E>,
+    ) -> Result<BoolVar<E>, Refusal>
+    where
+        R: Role<E, T>,
+        ensures { Compared (Settled (native_square E.algebra (var_means E.means a)) (var_means E.means a)) (λ d. R.Does E.Member E.algebra E.means self.old.builder self.new.builder tables.old tables.new (boolean_assert_call (var_means E.means a) d) (outcome (λ v. Some (var_means E.means v.var)) result)) }
+    {
+        self.boolean(tables, BoolRequest::Assert(a), E::zero())
+    }
+
+    pub fn not<E: Ring, T>(
+        &mut self,
+        tables: &mut T,
+        a: BoolVar<E>,
+    ) -> Result<BoolVar<E>, Refusal>
+    where
+        R: Role<E, T>,
+        ensures { R.Does E.Member E.algebra E.means self.old.builder self.new.builder tables.old tables.new (boolean_not_call (var_means E.means a.var)) (outcome (λ v. Some (var_means E.means v.var)) result) }
+    {
+        self.boolean(tables, BoolRequest::Not(a), E::zero())
+    }
+
+    pub fn and<E: Ring, T>(
+        &mut self,
+        tables: &mut T,
+        a: BoolVar<E>,
+        b: BoolVar<E>,
+    ) -> Result<BoolVar<E>, Refusal>
+    where
+        R: Role<E, T>,
+        ensures { R.Does E.Member E.algebra E.means self.old.builder self.new.builder tables.old tables.new (boolean_and_call (var_means E.means a.var) (var_means E.means b.var)) (outcome (λ v. Some (var_means E.means v.var)) result) }
+    {
+        self.boolean(tables, BoolRequest::And(a, b), E::zero())
+    }
+
+    pub fn or<E: Ring, T>(
+        &mut self,
+        tables: &mut T,
+        a: BoolVar<E>,
+        b: BoolVar<E>,
+    ) -> Result<BoolVar<E>, Refusal>
+    where
+        R: Role<E, T>,
+        ensures { R.Does E.Member E.algebra E.means self.old.builder self.new.builder tables.old tables.new (boolean_or_call (var_means E.means a.var) (var_means E.means b.var)) (outcome (λ v. Some (var_means E.means v.var)) result) }
+    {
+        self.boolean(tables, BoolRequest::Or(a, b), E::zero())
+    }
+
+    pub fn boolean_assert_equal<E: Ring, T>(
+        &mut self,
+        tables: &mut T,
+        a: BoolVar<E>,
+        b: BoolVar<E>,
+    ) -> Result<(), Refusal>
+    where
+        R: Role<E, T>,
+        ensures { Compared (Settled (var_means E.means a.var) (var_means E.means b.var)) (λ d. R.Does E.Member E.algebra E.means self.old.builder self.new.builder tables.old tables.new (assert_call (var_means E.means a.var) (var_means E.means b.var) d) (outcome (λ _. None) result)) }
+    {
+        self.assert_equal(tables, a.var, b.var)
+    }
+
+    // t where b is one, f where it is zero.
+    pub fn select<E: Ring, T>(
+        &mut self,
+        tables: &mut T,
+        b: BoolVar<E>,
+        t: Var<E>,
+        f: Var<E>,
+    ) -> Result<Var<E>, Refusal>
+    where
+        R: Role<E, T>,
+        ensures { R.Does E.Member E.algebra E.means self.old.builder self.new.builder tables.old tables.new (select_call (var_means E.means b.var) (var_means E.means t) (var_means E.means f)) (outcome (λ v. Some (var_means E.means v)) result) }
+    {
+        self.call(tables, Request::Select(b.var, t, f), E::zero())
     }
 }

@@ -1,61 +1,50 @@
-// Builder calls given as values.
-ghost use Rattle.std.specs.Prelude.{◌≡◌, if◌then◌else◌, Ok, Err};
-ghost use Rattle.worksheet.specs.declared.Var.TheVariants.{Native};
+// A builder call given as a value, on a worksheet's structure.
+ghost use Rattle.std.specs.Prelude.{◌≡◌};
 ghost use Rattle.refusal.specs.Outcome.{outcome};
 ghost use Rattle.worksheet.specs.Calls.{var_means};
-ghost use Rattle.builder.specs.Called.{short, Called};
-ghost use Rattle.builder.specs.Requests.{Of, shown};
-ghost use Rattle.builder.specs.Within.{Within};
+ghost use Rattle.builder.specs.Called.{short, Made};
+ghost use Rattle.builder.specs.Requests.{OfStructure, shown};
 
 use super::requests::{clashes, cost_of};
-use super::{Builder, Request, Tables};
+use super::{Builder, Draft, Request, Tables};
 use refusal::Refusal;
 use ring::Ring;
-use worksheet::{CircuitIdx, CircuitNode, Var};
+use worksheet::{Counts, Var};
+
+impl<'a, E> Tables<'a, E> {
+    // Whether a table is shorter than its capacity.
+    pub fn are_short(&self, capacity: Counts) -> bool
+        ensures { result ≡ short capacity self.now.constants.now self.now.nodes.now self.now.assertions.now }
+    {
+        self.constants.len() < capacity.constants as usize
+            || self.nodes.len() < capacity.nodes as usize
+            || self.assertions.len() < capacity.assertions as usize
+    }
+}
 
 impl Builder {
-    // Makes a builder call that is given as a value.
+    // Makes a builder call that is given as a value. With `lacking`, another table that the call needs is short.
     pub fn call<E: Ring>(
         &mut self,
-        constants: &mut [E],
-        nodes: &mut [CircuitNode],
-        assertions: &mut [(CircuitIdx, CircuitIdx)],
+        tables: &mut Tables<'_, E>,
+        lacking: bool,
         request: Request<E>,
     ) -> Result<Var<E>, Refusal>
-        ensures called { Of E.algebra E.means request (λ c. Called E.algebra E.means self.old.capacity self.old.counts self.new.counts constants.old constants.new nodes.old nodes.new assertions.old assertions.new c (outcome (λ v. shown E.algebra E.means request (var_means E.means v)) result)) }
-        ensures capacity { self.new.capacity ≡ self.old.capacity }
-        ensures grows { Within self.old.counts self.new.counts }
+        ensures { OfStructure E.algebra E.means request (λ c. Made E.algebra E.means lacking self.old self.new tables.old tables.new c (outcome (λ v. shown E.algebra E.means request (var_means E.means v)) result)) }
     {
-        let short = self.is_short(constants.len(), nodes.len(), assertions.len());
-        let known = self.knows_all(request);
+        let short = self.lacks(tables, lacking);
+        let known = self.knows_operands(request);
         let clash = clashes(request);
         let cost = cost_of(request);
         self.admit(short, known, clash, cost.counts)?;
-        let mut tables = Tables {
-            constants,
-            nodes,
-            assertions,
+        let mut draft = Draft {
+            constants: &mut *tables.constants,
+            nodes: &mut *tables.nodes,
+            assertions: &mut *tables.assertions,
             counts: self.counts,
         };
-        let answer = tables.make(request);
-        self.counts = tables.counts;
+        let answer = draft.make(request);
+        self.counts = draft.counts;
         Ok(answer)
-    }
-
-    // Refuses where a table is short, and else answers a native that appends nothing.
-    pub fn answer<E: Ring>(
-        &self,
-        constants: &[E],
-        nodes: &[CircuitNode],
-        assertions: &[(CircuitIdx, CircuitIdx)],
-        x: E,
-    ) -> Result<Var<E>, Refusal>
-        ensures { result ≡ (if short self.now.capacity constants.now nodes.now assertions.now then Err Refusal.ShortTable else Ok (Native x)) }
-    {
-        if self.is_short(constants.len(), nodes.len(), assertions.len()) {
-            Err(Refusal::ShortTable)
-        } else {
-            Ok(Var::Native(x))
-        }
     }
 }

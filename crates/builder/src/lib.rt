@@ -1,17 +1,23 @@
-// A worksheet's structure, built call by call in tables that the caller lends: what a prover and a verifier share.
+// A worksheet, built call by call in tables that the caller lends: what provers and verifiers share.
 #![tactic(auto)]
 
 ghost use Rattle.builder.specs.Within.{Within, Small};
 
+use std::marker::PhantomData;
 use worksheet::{CircuitIdx, CircuitNode, Counts, Var};
 
 mod admission;
 mod boolean;
 mod calls;
 mod cost;
+mod elements;
 mod life;
+mod opening;
 mod requests;
+mod roles;
 mod writing;
+
+pub use roles::Role;
 
 // How much of its tables a worksheet has filled.
 #[derive(Drop)]
@@ -20,6 +26,28 @@ pub struct Builder {
     counts: Counts,
     ghost small: { Small capacity },
     ghost below: { Within counts capacity },
+}
+
+// The tables of a worksheet's structure, lent by the caller.
+#[derive(Drop)]
+pub struct Tables<'a, E> {
+    pub constants: &'a mut [E],
+    pub nodes: &'a mut [CircuitNode],
+    pub assertions: &'a mut [(CircuitIdx, CircuitIdx)],
+}
+
+// A worksheet that takes calls, in the role R.
+#[derive(Drop)]
+pub struct Open<R> {
+    builder: Builder,
+    role: PhantomData<R>,
+}
+
+// A worksheet that takes no more calls.
+#[derive(Drop)]
+pub struct Sealed<R> {
+    builder: Builder,
+    role: PhantomData<R>,
 }
 
 // A variable that is zero or one, had only from the boolean calls.
@@ -68,9 +96,9 @@ enum Op {
     Multiply,
 }
 
-// The tables of a worksheet while a call writes them.
+// The tables and the counts of a worksheet while a call writes them.
 #[derive(Drop)]
-struct Tables<'a, E> {
+struct Draft<'a, E> {
     constants: &'a mut [E],
     nodes: &'a mut [CircuitNode],
     assertions: &'a mut [(CircuitIdx, CircuitIdx)],

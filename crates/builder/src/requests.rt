@@ -6,7 +6,7 @@ ghost use Rattle.builder.specs.Requests.{vars, request_cost, performed, Clash};
 ghost use Rattle.builder.specs.Tables.{sheet_of, Room, AllThere, Wrote};
 
 use super::cost::*;
-use super::{Builder, Op, Request, Tables};
+use super::{Builder, Draft, Op, Request};
 use ring::Ring;
 use worksheet::Var;
 
@@ -45,7 +45,7 @@ pub fn clashes<E: Ring>(request: Request<E>) -> bool
     }
 }
 
-impl<'a, E: Ring> Tables<'a, E> {
+impl<'a, E: Ring> Draft<'a, E> {
     // Writes what a request appends, and answers.
     pub(super) fn make(&mut self, request: Request<E>) -> Var<E>
         requires room { Room self.old (request_cost request).counts }
@@ -74,21 +74,23 @@ impl<'a, E: Ring> Tables<'a, E> {
 }
 
 impl Builder {
-    pub(super) fn knows_all<E: Copy>(&self, request: Request<E>) -> bool
+    // Whether each operand is native, or an id of the worksheet.
+    pub(super) fn knows_operands<E: Copy>(&self, request: Request<E>) -> bool
         ensures { result ≡ all_by self.now.counts (vars request) }
     {
         match request {
             Request::Constant(_) | Request::Witness | Request::BooleanWitness => true,
-            Request::Negate(a) | Request::BooleanAssert(a) | Request::Not(a) => self.knows_one(a),
-            Request::Invert(i) => self.knows_one::<E>(Var::Circuit(i)),
-            Request::Add(a, b) | Request::Multiply(a, b) | Request::Subtract(a, b) =>
-                self.knows_two(a, b),
-            Request::AssertEqual(a, b) | Request::And(a, b) | Request::Or(a, b) => self.knows_two(
-                a, b,
-            ),
-            Request::DivideBy(a, i) => self.knows_two(a, Var::Circuit(i)),
-            Request::DivideId(i, y) => self.knows_two(Var::Circuit(i), Var::Native(y)),
-            Request::Select(b, t, f) => self.knows_three(b, t, f),
+            Request::Negate(a) | Request::BooleanAssert(a) | Request::Not(a) => self.knows(a),
+            Request::Invert(i) => self.knows::<E>(Var::Circuit(i)),
+            Request::Add(a, b) | Request::Multiply(a, b) | Request::Subtract(a, b) => {
+                self.knows(a) && self.knows(b)
+            }
+            Request::AssertEqual(a, b) | Request::And(a, b) | Request::Or(a, b) => {
+                self.knows(a) && self.knows(b)
+            }
+            Request::DivideBy(a, i) => self.knows(a) && self.knows::<E>(Var::Circuit(i)),
+            Request::DivideId(i, _) => self.knows::<E>(Var::Circuit(i)),
+            Request::Select(b, t, f) => self.knows(b) && self.knows(t) && self.knows(f),
         }
     }
 }

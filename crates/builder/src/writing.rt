@@ -8,7 +8,7 @@ ghost use Rattle.builder.specs.declared.cost.Kind.TheVariants.{Native as native}
 ghost use Rattle.builder.specs.Cost.{counts as entries, cost as cost_by, constant_cost, witness_cost, node_cost, after, kind_of, kind_of_id, join_cost, operate_cost, negate_cost, subtract_cost, assert_cost, quotient_cost, square_cost, either_cost, select_cost};
 ghost use Rattle.builder.specs.Tables.{op_of, sheet_of, Room, There, ThereId, Grew, Wrote};
 
-use super::{Op, Tables};
+use super::{Draft, Op};
 use ring::Ring;
 use worksheet::{CircuitIdx, CircuitNode, Var};
 
@@ -38,7 +38,7 @@ fn entry<E: Ring>(table: &[E], n: u32, k: u32) -> E
     table[k as usize]
 }
 
-impl<'a, E: Ring> Tables<'a, E> {
+impl<'a, E: Ring> Draft<'a, E> {
     pub(super) fn push_constant(&mut self, x: E) -> CircuitIdx
         requires { Room self.old (entries 1 0 0 0) }
         ensures { Wrote E.means self.old self.new constant_cost (push_constant (sheet_of E.means self.old) (E.means x)) (Circuit result) }

@@ -76,7 +76,7 @@ decisions_agree x y d e = go d.yes? e.yes? refl refl
     go false true p q = absurd (d.if_no p (e.if_yes q))
     go false false p q = refl
 
-differ_agree : {M : Type 0} (x y : Var M) (d e : Settled x y) → natives_differ x y d ≡ natives_differ x y e
+pub differ_agree : {M : Type 0} (x y : Var M) (d e : Settled x y) → natives_differ x y d ≡ natives_differ x y e
 differ_agree (Native x) (Native y) d e = ap not (decisions_agree x y d e)
 differ_agree (Native x) (Circuit b) d e = refl
 differ_agree (Circuit a) (Native y) d e = refl

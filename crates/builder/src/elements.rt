@@ -1,0 +1,111 @@
+// The builder calls on elements and ids, for every role.
+ghost use Rattle.std.specs.Prelude.{◌≡◌, if◌then◌else◌, Some, None, Ok, Err};
+ghost use Rattle.refusal.specs.declared.Refusal.TheVariants.{ShortTable};
+ghost use Rattle.refusal.specs.Outcome.{outcome};
+ghost use Rattle.worksheet.specs.declared.Var.TheVariants.{Native};
+ghost use Rattle.worksheet.specs.Calls.{var_means};
+ghost use Rattle.worksheet.specs.Runs.{constant as constant_call, add as add_call, multiply as multiply_call, negate as negate_call, subtract as subtract_call, assert_equal as assert_call, Settled};
+ghost use Rattle.builder.specs.Requests.{Of, Compared, shown};
+
+use super::{Open, Request, Role};
+use refusal::Refusal;
+use ring::Ring;
+use worksheet::Var;
+
+impl<R> Open<R> {
+    // Makes a builder call that is given as a value. A witness that it appends is handed `fresh`.
+    pub fn call<E: Ring, T>(
+        &mut self,
+        tables: &mut T,
+        request: Request<E>,
+        fresh: E,
+    ) -> Result<Var<E>, Refusal>
+    where
+        R: Role<E, T>,
+        ensures { Of E.algebra E.means (R.values E.Member E.algebra E.means self.old.builder tables.old) (R.Hands E.Member (E.means fresh)) request (λ c. R.Does E.Member E.algebra E.means self.old.builder self.new.builder tables.old tables.new c (outcome (λ v. shown E.algebra E.means request (var_means E.means v)) result)) }
+    {
+        R::call(&mut self.builder, tables, &request, fresh)
+    }
+
+    // Refuses where a table is short, and else answers a native that appends nothing.
+    pub fn answer<E: Ring, T>(&self, tables: &T, x: E) -> Result<Var<E>, Refusal>
+    where
+        R: Role<E, T>,
+        ensures { result ≡ (if R.short self.now.builder.capacity tables.now then Err ShortTable else Ok (Native x)) }
+    {
+        if R::is_short(self.builder.capacity(), tables) {
+            Err(Refusal::ShortTable)
+        } else {
+            Ok(Var::Native(x))
+        }
+    }
+
+    pub fn constant<E: Ring, T>(&mut self, tables: &mut T, x: E) -> Result<Var<E>, Refusal>
+    where
+        R: Role<E, T>,
+        ensures { R.Does E.Member E.algebra E.means self.old.builder self.new.builder tables.old tables.new (constant_call (E.means x)) (outcome (λ v. Some (var_means E.means v)) result) }
+    {
+        self.call(tables, Request::Constant(x), E::zero())
+    }
+
+    pub fn add<E: Ring, T>(
+        &mut self,
+        tables: &mut T,
+        a: Var<E>,
+        b: Var<E>,
+    ) -> Result<Var<E>, Refusal>
+    where
+        R: Role<E, T>,
+        ensures { R.Does E.Member E.algebra E.means self.old.builder self.new.builder tables.old tables.new (add_call (var_means E.means a) (var_means E.means b)) (outcome (λ v. Some (var_means E.means v)) result) }
+    {
+        self.call(tables, Request::Add(a, b), E::zero())
+    }
+
+    pub fn multiply<E: Ring, T>(
+        &mut self,
+        tables: &mut T,
+        a: Var<E>,
+        b: Var<E>,
+    ) -> Result<Var<E>, Refusal>
+    where
+        R: Role<E, T>,
+        ensures { R.Does E.Member E.algebra E.means self.old.builder self.new.builder tables.old tables.new (multiply_call (var_means E.means a) (var_means E.means b)) (outcome (λ v. Some (var_means E.means v)) result) }
+    {
+        self.call(tables, Request::Multiply(a, b), E::zero())
+    }
+
+    pub fn negate<E: Ring, T>(&mut self, tables: &mut T, a: Var<E>) -> Result<Var<E>, Refusal>
+    where
+        R: Role<E, T>,
+        ensures { R.Does E.Member E.algebra E.means self.old.builder self.new.builder tables.old tables.new (negate_call (var_means E.means a)) (outcome (λ v. Some (var_means E.means v)) result) }
+    {
+        self.call(tables, Request::Negate(a), E::zero())
+    }
+
+    pub fn subtract<E: Ring, T>(
+        &mut self,
+        tables: &mut T,
+        a: Var<E>,
+        b: Var<E>,
+    ) -> Result<Var<E>, Refusal>
+    where
+        R: Role<E, T>,
+        ensures { R.Does E.Member E.algebra E.means self.old.builder self.new.builder tables.old tables.new (subtract_call (var_means E.means a) (var_means E.means b)) (outcome (λ v. Some (var_means E.means v)) result) }
+    {
+        self.call(tables, Request::Subtract(a, b), E::zero())
+    }
+
+    pub fn assert_equal<E: Ring, T>(
+        &mut self,
+        tables: &mut T,
+        a: Var<E>,
+        b: Var<E>,
+    ) -> Result<(), Refusal>
+    where
+        R: Role<E, T>,
+        ensures { Compared (Settled (var_means E.means a) (var_means E.means b)) (λ d. R.Does E.Member E.algebra E.means self.old.builder self.new.builder tables.old tables.new (assert_call (var_means E.means a) (var_means E.means b) d) (outcome (λ _. None) result)) }
+    {
+        self.call(tables, Request::AssertEqual(a, b), E::zero())?;
+        Ok(())
+    }
+}

@@ -1,0 +1,42 @@
+// What provers and verifiers do in ways of their own.
+ghost use Rattle.std.specs.Prelude.{◌≡◌, Bool};
+ghost use Rattle.refusal.specs.Outcome.{outcome};
+ghost use Rattle.ring.specs.Algebra.{RingOn};
+ghost use Rattle.worksheet.specs.declared.CircuitIdx.{CircuitIdx as Id};
+ghost use Rattle.worksheet.specs.declared.Counts.{Counts as Sizes};
+ghost use Rattle.worksheet.specs.Calls.{var_means};
+ghost use Rattle.worksheet.specs.Runs.{prover, Call, Reply};
+ghost use Rattle.builder.specs.declared.Builder.{Builder as Counted};
+ghost use Rattle.builder.specs.Requests.{Of, shown};
+
+use super::{Builder, Request};
+use refusal::Refusal;
+use ring::Ring;
+use worksheet::{Counts, Var};
+
+// A role whose worksheets stand in tables T, over the ring E.
+pub trait Role<E: Ring, T> {
+    // Whether some table is shorter than its capacity.
+    ghost short: { Sizes → T → Bool };
+
+    // The values of ids.
+    ghost values: { (M : Type 0) (R : RingOn M) → (E → M) → Counted → T → Id → M };
+
+    // A witness that is handed the first has the second as its value.
+    ghost Hands: { (M : Type 0) → M → M → Type 0 };
+
+    // What a call does to counts and tables, and answers.
+    ghost Does: { (M : Type 0) (R : RingOn M) → (E → M) → Counted → Counted → T → T → Call R prover → Reply M → Type 0 };
+
+    fn is_short(capacity: Counts, tables: &T) -> bool
+        ensures { result ≡ short capacity tables.now };
+
+    // Makes a builder call that is given as a value. A witness that it appends is handed `fresh`.
+    fn call(
+        builder: &mut Builder,
+        tables: &mut T,
+        request: &Request<E>,
+        fresh: E,
+    ) -> Result<Var<E>, Refusal>
+        ensures { Of E.algebra E.means (values E.Member E.algebra E.means builder.old tables.old) (Hands E.Member (E.means fresh)) request.now (λ c. Does E.Member E.algebra E.means builder.old builder.new tables.old tables.new c (outcome (λ v. shown E.algebra E.means request.now (var_means E.means v)) result)) };
+}
