@@ -1,22 +1,10 @@
 // A verifier's worksheet: structure and no values.
 #![tactic(auto)]
 
-use builder::Builder;
+mod role;
+mod witnesses;
 
-mod arithmetic;
-mod boolean;
-mod division;
-mod life;
-mod sealed_calls;
+pub use witnesses::Witnesses;
 
-// A worksheet that takes builder calls.
-#[derive(Drop)]
-pub struct Open {
-    builder: Builder,
-}
-
-// A worksheet that takes no more calls.
-#[derive(Drop)]
-pub struct Sealed {
-    builder: Builder,
-}
+// The role of one who holds no values.
+pub struct Verifier;

@@ -1,0 +1,33 @@
+// A verifier's role: its tables hold the structure alone.
+ghost use Rattle.std.specs.Prelude.{false};
+ghost use Rattle.worksheet.specs.Runs.{erase};
+ghost use Rattle.builder.specs.Called.{short, Made};
+
+use super::Verifier;
+use builder::{Builder, Request, Role, Tables};
+use refusal::Refusal;
+use ring::Ring;
+use worksheet::{Counts, Var};
+
+impl<'a, E: Ring> Role<E, Tables<'a, E>> for Verifier {
+    ghost short = { λ cap t. short cap t.constants.now t.nodes.now t.assertions.now };
+
+    ghost values = { λ M R means n t i. R.nought };
+
+    ghost Hands = { λ M x y. Unit {0} };
+
+    ghost Does = { λ M R means was is t t' c p. Made R means false was is t t' (erase c) p };
+
+    fn is_short(capacity: Counts, tables: &Tables<'a, E>) -> bool {
+        tables.are_short(capacity)
+    }
+
+    fn call(
+        builder: &mut Builder,
+        tables: &mut Tables<'a, E>,
+        request: &Request<E>,
+        _fresh: E,
+    ) -> Result<Var<E>, Refusal> {
+        builder.call(tables, false, *request)
+    }
+}
