@@ -1,5 +1,5 @@
 -- What a request asks: its operands, cost and answer are those of the calls that it stands for.
-use Rattle.std.proofs.Common.{◌≡◌, ℕ, ◌||◌, Bool, true, List, [], ◌∷◌, Some, None, Option, sym, refl, ap, ◌∙◌, subst, arith}
+use Rattle.std.proofs.Common.{◌≡◌, ℕ, ◌||◌, Bool, true, false, List, [], ◌∷◌, length, Some, None, Option, sym, refl, ap, ◌∙◌, subst, arith}
 use Rattle.refusal.specs.Outcome.{accepted, refused}
 use Rattle.std.proofs.lemmas.Bool.{and_parts}
 use Rattle.ring.specs.Algebra.{RingOn}
@@ -10,6 +10,7 @@ use Rattle.worksheet.specs.Sheet.{Sheet}
 use Rattle.worksheet.specs.Calls.{var_means, plus_op, times_op, push_witness}
 use Rattle.worksheet.specs.Runs.{verifier, native_square, Call, refusal}
 use Rattle.worksheet.proofs.Alike.{differ_agree}
+use Rattle.worksheet.proofs.Stepping.{clear}
 use Rattle.builder.specs.declared.cost.Cost.{Cost}
 use Rattle.builder.specs.declared.cost.Kind.{Kind}
 use Rattle.builder.specs.declared.cost.Kind.TheVariants.{Native as native_kind}
@@ -19,7 +20,7 @@ use Rattle.builder.specs.declared.Tables.{Tables}
 use Rattle.builder.specs.declared.Request.{Request}
 use Rattle.builder.specs.declared.Request.TheVariants.{Constant, Witness, Add, Multiply, Negate, Subtract, DivideBy, DivideId, Invert, AssertEqual, BooleanWitness, BooleanAssert, Not, And, Or, Select}
 use Rattle.builder.specs.Admission.{known_by, all_by, causes}
-use Rattle.builder.specs.Called.{short, Called, Lent, Made}
+use Rattle.builder.specs.Called.{short, Called, Stays, Made}
 use Rattle.builder.specs.Cost.{kind_of, kind_of_id, witness_cost, operate_cost, negate_cost, subtract_cost, assert_cost, quotient_cost, square_cost, either_cost, select_cost}
 use Rattle.builder.specs.Requests.{vars, request_cost, performed, shown, OfStructure, Clash}
 use Rattle.builder.specs.Tables.{sheet_in, AllThere, Room, Wrote}
@@ -88,6 +89,10 @@ module _ {E M : Type 0} (R : RingOn M) (means : E → M) (S : Sheet M) where
   of_asked (Or x y) b e P h = h _ (record { named = refl; clash_is = e; sized = request_sized (Or x y); performs = refl; replies = λ _. refl })
   of_asked (Select x y z) b e P h = h _ (record { named = refl; clash_is = e; sized = request_sized (Select x y z); performs = refl; replies = λ _. refl })
 
+-- a call that changes nothing
+pub unmoved : {E : Type 0} (o : Builder) (t : Tables E) → Stays o o t t
+unmoved o t = record { capacity = refl; grows = (omega arith, omega arith, omega arith, omega arith); lent = record { constants = refl; nodes = refl; assertions = refl; long_constants = refl; long_nodes = refl; long_assertions = refl } }
+
 -- a request as a whole, on tables t: f, b, k, clash and m are what code has found of other tables, of these, of the operands, of the natives and of the cost
 module _ {E M : Type 0} (R : RingOn M) (means : E → M) (o : Builder) (f : Bool) (t : Tables E) (q : Request E) (b k clash : Bool) (n : Counts) (is_short : b ≡ (f || short o.capacity t.constants.now t.nodes.now t.assertions.now)) (is_known : k ≡ all_by o.counts (vars q)) (is_cost : n ≡ (request_cost q).counts) (is_clash : Clash R means q clash) where
   abbrev S : Sheet M
@@ -99,9 +104,7 @@ module _ {E M : Type 0} (R : RingOn M) (means : E → M) (o : Builder) (f : Bool
   pub refused_request : (j : ℕ) → Refusing (Some j) → OfStructure R means q (λ c. Made R means f o o t t c (refused j))
   refused_request j e = of_asked R means S q clash is_clash (λ c. Made R means f o o t t c (refused j)) (λ c asked. record {
     called = refused_call R means o f t.constants.now t.nodes.now t.assertions.now c (vars q) clash (request_cost q).counts (performed R means S q) (shown R means q) asked b k n is_short is_known is_cost j e;
-    capacity = refl;
-    grows = (omega arith, omega arith, omega arith, omega arith);
-    lent = record { constants = refl; nodes = refl; assertions = refl };
+    stays = unmoved o t;
   })
 
   pub room_for : Refusing None → (d : Draft E) → d.counts ≡ o.counts → d.constants.now ≡ t.constants.now → d.nodes.now ≡ t.nodes.now → d.assertions.now ≡ t.assertions.now → Room d (request_cost q).counts
@@ -113,13 +116,31 @@ module _ {E M : Type 0} (R : RingOn M) (means : E → M) (o : Builder) (f : Bool
   pub within_capacity : Refusing None → Within (sum o.counts (request_cost q).counts) o.capacity
   within_capacity e = fits R means o f t.constants.now t.nodes.now t.assertions.now (vars q) clash (request_cost q).counts b k n is_short is_known is_cost e
 
-  pub accepted_request : Refusing None → (d d' : Draft E) (v : Var E) → d.constants.now ≡ t.constants.now → d.nodes.now ≡ t.nodes.now → d.assertions.now ≡ t.assertions.now → Wrote means d d' (request_cost q) (performed R means S q) v → (is : Builder) (t' : Tables E) → d.counts ≡ o.counts → is.counts ≡ d'.counts → is.capacity ≡ o.capacity → t'.constants.now ≡ d'.constants.now → t'.nodes.now ≡ d'.nodes.now → t'.assertions.now ≡ d'.assertions.now → Lent t t' → OfStructure R means q (λ c. Made R means f o is t t' c (accepted (shown R means q (var_means means v))))
-  accepted_request e d d' v cs ns qs wrote is t' was counted cap cs' ns' qs' lent =
-      let grown = counted ∙ wrote.grew.counts ∙ ap (λ (j : Counts). sum j (request_cost q).counts) was in
-      of_asked R means S q clash is_clash (λ c. Made R means f o is t t' c (accepted (shown R means q (var_means means v)))) (λ c asked. record {
-        called = subst (λ (j : Counts). Called R means o.capacity o.counts j f t.constants.now t'.constants.now t.nodes.now t'.nodes.now t.assertions.now t'.assertions.now c (accepted (shown R means q (var_means means v)))) (sym counted)
-        (accepted_call R means o f t.constants.now t.nodes.now t.assertions.now c (vars q) clash (request_cost q).counts (performed R means S q) (shown R means q) asked b k n is_short is_known is_cost e d d' v cs ns qs wrote.grew wrote.answer t'.constants.now t'.nodes.now t'.assertions.now cs' ns' qs');
-        capacity = cap;
-        grows = subst (Within o.counts) (sym grown) (omega arith, omega arith, omega arith, omega arith);
-        lent = lent;
-      })
+  pub is_long : Refusing None → (f || short o.capacity t.constants.now t.nodes.now t.assertions.now) ≡ false
+  is_long e = sym is_short ∙ (clear (causes o.capacity o.counts b k clash n) e).0
+
+  -- d and d' are the draft before and after
+  module _ (e : Refusing None) (d d' : Draft E) (v : Var E) (cs : d.constants.now ≡ t.constants.now) (ns : d.nodes.now ≡ t.nodes.now) (qs : d.assertions.now ≡ t.assertions.now) (was : d.counts ≡ o.counts) (wrote : Wrote means d d' (request_cost q) (performed R means S q) v) (is : Builder) (t' : Tables E) (counted : is.counts ≡ d'.counts) (cap : is.capacity ≡ o.capacity) (cs_lent : t'.constants.ghost_name ≡ t.constants.ghost_name) (ns_lent : t'.nodes.ghost_name ≡ t.nodes.ghost_name) (qs_lent : t'.assertions.ghost_name ≡ t.assertions.ghost_name) (cs' : t'.constants.now ≡ d'.constants.now) (ns' : t'.nodes.now ≡ d'.nodes.now) (qs' : t'.assertions.now ≡ d'.assertions.now) where
+    pub moved : Stays o is t t'
+    moved =
+        let grown = counted ∙ wrote.grew.counts ∙ ap (λ (j : Counts). sum j (request_cost q).counts) was in
+        let kept = wrote.grew.kept in
+        record {
+          capacity = cap;
+          grows = subst (Within o.counts) (sym grown) (omega arith, omega arith, omega arith, omega arith);
+          lent = record {
+            constants = cs_lent;
+            nodes = ns_lent;
+            assertions = qs_lent;
+            long_constants = ap length cs' ∙ kept.long_constants ∙ ap length cs;
+            long_nodes = ap length ns' ∙ kept.long_nodes ∙ ap length ns;
+            long_assertions = ap length qs' ∙ kept.long_assertions ∙ ap length qs;
+          };
+        }
+
+    pub accepted_request : OfStructure R means q (λ c. Made R means f o is t t' c (accepted (shown R means q (var_means means v))))
+    accepted_request = of_asked R means S q clash is_clash (λ c. Made R means f o is t t' c (accepted (shown R means q (var_means means v)))) (λ c asked. record {
+      called = subst (λ (j : Counts). Called R means o.capacity o.counts j f t.constants.now t'.constants.now t.nodes.now t'.nodes.now t.assertions.now t'.assertions.now c (accepted (shown R means q (var_means means v)))) (sym counted)
+      (accepted_call R means o f t.constants.now t.nodes.now t.assertions.now c (vars q) clash (request_cost q).counts (performed R means S q) (shown R means q) asked b k n is_short is_known is_cost e d d' v cs ns qs wrote.grew wrote.answer t'.constants.now t'.nodes.now t'.assertions.now cs' ns' qs');
+      stays = moved;
+    })

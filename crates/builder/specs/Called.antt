@@ -31,15 +31,22 @@ pub record Called {E M : Type 0} (R : RingOn M) (means : E → M) (cap n n' : Co
   -- and any call what stands past the counts
   pub spare : (drop n'.constants cs' ≡ drop n'.constants cs) × (drop n'.nodes ns' ≡ drop n'.nodes ns) × (drop n'.assertions qs' ≡ drop n'.assertions qs)
 
--- tables that are the same memory
+-- tables that are the same memory, as long as they were
 pub record Lent {E : Type 0} (t t' : Tables E) : Type 0 where
   pub constants : t'.constants.ghost_name ≡ t.constants.ghost_name
   pub nodes : t'.nodes.ghost_name ≡ t.nodes.ghost_name
   pub assertions : t'.assertions.ghost_name ≡ t.assertions.ghost_name
+  pub long_constants : length t'.constants.now ≡ length t.constants.now
+  pub long_nodes : length t'.nodes.now ≡ length t.nodes.now
+  pub long_assertions : length t'.assertions.now ≡ length t.assertions.now
 
--- the same, at the capacity that the worksheet was opened with
-pub record Made {E M : Type 0} (R : RingOn M) (means : E → M) (lacks : Bool) (was is : Builder) (t t' : Tables E) (c : Call R verifier) (p : Reply M) : Type 0 where
-  pub called : Called R means was.capacity was.counts is.counts lacks t.constants.now t'.constants.now t.nodes.now t'.nodes.now t.assertions.now t'.assertions.now c p
+-- what every call keeps: the capacity, what was counted, and the memory of the tables
+pub record Stays {E : Type 0} (was is : Builder) (t t' : Tables E) : Type 0 where
   pub capacity : is.capacity ≡ was.capacity
   pub grows : Within was.counts is.counts
   pub lent : Lent t t'
+
+-- a call on a worksheet, at the capacity that it was opened with
+pub record Made {E M : Type 0} (R : RingOn M) (means : E → M) (lacks : Bool) (was is : Builder) (t t' : Tables E) (c : Call R verifier) (p : Reply M) : Type 0 where
+  pub called : Called R means was.capacity was.counts is.counts lacks t.constants.now t'.constants.now t.nodes.now t'.nodes.now t.assertions.now t'.assertions.now c p
+  pub stays : Stays was is t t'

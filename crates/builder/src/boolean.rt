@@ -52,7 +52,8 @@ impl<R> Open<R> {
     ) -> Result<BoolVar<E>, Refusal>
     where
         R: Role<E, T>,
-        ensures { Of E.algebra E.means (R.values E.Member E.algebra E.means self.old.builder tables.old) (R.Hands E.Member (E.means fresh)) (request_of request) (λ c. R.Does E.Member E.algebra E.means self.old.builder self.new.builder tables.old tables.new c (outcome (λ v. shown E.algebra E.means (request_of request) (var_means E.means v.var)) result)) }
+        ensures called { Of E.algebra E.means (R.values E.Member E.algebra E.means self.old.builder tables.old) (R.Hands E.Member (E.means fresh)) (request_of request) (λ c. R.Does E.Member E.algebra E.means self.old.builder self.new.builder tables.old tables.new c (outcome (λ v. shown E.algebra E.means (request_of request) (var_means E.means v.var)) result)) }
+        ensures stays { R.Stays self.old.builder self.new.builder tables.old tables.new }
     {
         let var = self.call(tables, request_of(request), fresh)?;
         Ok(BoolVar { var })

@@ -1,8 +1,8 @@
 // A builder call given as a value, on a worksheet's structure.
-ghost use Rattle.std.specs.Prelude.{◌≡◌};
+ghost use Rattle.std.specs.Prelude.{◌≡◌, ◌||◌, false, OnOk};
 ghost use Rattle.refusal.specs.Outcome.{outcome};
 ghost use Rattle.worksheet.specs.Calls.{var_means};
-ghost use Rattle.builder.specs.Called.{short, Made};
+ghost use Rattle.builder.specs.Called.{short, Stays, Made};
 ghost use Rattle.builder.specs.Requests.{OfStructure, shown};
 
 use super::requests::{clashes, cost_of};
@@ -30,7 +30,9 @@ impl Builder {
         lacking: bool,
         request: Request<E>,
     ) -> Result<Var<E>, Refusal>
-        ensures { OfStructure E.algebra E.means request (λ c. Made E.algebra E.means lacking self.old self.new tables.old tables.new c (outcome (λ v. shown E.algebra E.means request (var_means E.means v)) result)) }
+        ensures called { OfStructure E.algebra E.means request (λ c. Made E.algebra E.means lacking self.old self.new tables.old tables.new c (outcome (λ v. shown E.algebra E.means request (var_means E.means v)) result)) }
+        ensures stays { Stays self.old self.new tables.old tables.new }
+        ensures long { OnOk result ((lacking || short self.old.capacity tables.old.constants.now tables.old.nodes.now tables.old.assertions.now) ≡ false) }
     {
         let short = self.lacks(tables, lacking);
         let known = self.knows_operands(request);

@@ -22,7 +22,8 @@ impl<R> Open<R> {
     ) -> Result<Var<E>, Refusal>
     where
         R: Role<E, T>,
-        ensures { Of E.algebra E.means (R.values E.Member E.algebra E.means self.old.builder tables.old) (R.Hands E.Member (E.means fresh)) request (λ c. R.Does E.Member E.algebra E.means self.old.builder self.new.builder tables.old tables.new c (outcome (λ v. shown E.algebra E.means request (var_means E.means v)) result)) }
+        ensures called { Of E.algebra E.means (R.values E.Member E.algebra E.means self.old.builder tables.old) (R.Hands E.Member (E.means fresh)) request (λ c. R.Does E.Member E.algebra E.means self.old.builder self.new.builder tables.old tables.new c (outcome (λ v. shown E.algebra E.means request (var_means E.means v)) result)) }
+        ensures stays { R.Stays self.old.builder self.new.builder tables.old tables.new }
     {
         R::call(&mut self.builder, tables, &request, fresh)
     }

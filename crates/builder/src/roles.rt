@@ -28,6 +28,9 @@ pub trait Role<E: Ring, T> {
     // What a call does to counts and tables, and answers.
     ghost Does: { (M : Type 0) (R : RingOn M) → (E → M) → Counted → Counted → T → T → Call R prover → Reply M → Type 0 };
 
+    // What every call keeps.
+    ghost Stays: { Counted → Counted → T → T → Type 0 };
+
     fn is_short(capacity: Counts, tables: &T) -> bool
         ensures { result ≡ short capacity tables.now };
 
@@ -38,5 +41,6 @@ pub trait Role<E: Ring, T> {
         request: &Request<E>,
         fresh: E,
     ) -> Result<Var<E>, Refusal>
-        ensures { Of E.algebra E.means (values E.Member E.algebra E.means builder.old tables.old) (Hands E.Member (E.means fresh)) request.now (λ c. Does E.Member E.algebra E.means builder.old builder.new tables.old tables.new c (outcome (λ v. shown E.algebra E.means request.now (var_means E.means v)) result)) };
+        ensures called { Of E.algebra E.means (values E.Member E.algebra E.means builder.old tables.old) (Hands E.Member (E.means fresh)) request.now (λ c. Does E.Member E.algebra E.means builder.old builder.new tables.old tables.new c (outcome (λ v. shown E.algebra E.means request.now (var_means E.means v)) result)) }
+        ensures stays { Stays builder.old builder.new tables.old tables.new };
 }

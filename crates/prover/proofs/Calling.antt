@@ -44,9 +44,10 @@ use Rattle.worksheet.specs.Runs.{
   step,
 }
 use Rattle.worksheet.proofs.Witnesses.{appends}
-use Rattle.builder.specs.Called.{Called as Structured, short as short_sheet, worksheet_in as structure_in}
-use Rattle.prover.specs.Book.{Book, book, short, sheet_of, worksheet_in, of_constants}
+use Rattle.builder.specs.Called.{Called as Structured, worksheet_in as structure_in}
+use Rattle.prover.specs.Book.{Book, book, lacks, short, sheet_of, worksheet_in, of_constants}
 use Rattle.prover.specs.Called.{Called}
+use Rattle.prover.specs.Filled.{Filled}
 use Rattle.prover.proofs.Entries.{works_by}
 
 -- a call and the verifier's are refused for the same causes, append the same and answer the same
@@ -85,15 +86,14 @@ pub record Long {E : Type 0} (cap : Counts) (t : Book E) : Type 0 where
   pub constants : cap.constants ≤ length t.constants
   pub nodes : cap.nodes ≤ length t.nodes
   pub assertions : cap.assertions ≤ length t.assertions
-  pub structure : short_sheet cap t.constants t.nodes t.assertions ≡ false
 
 pub long : {E : Type 0} (cap : Counts) (t : Book E) → short cap t ≡ false → Long cap t
 long cap t h =
-    let a = or_parts (ltb (length t.values) cap.witnesses) _ h in
-    let b = or_parts (ltb (length t.worked) cap.nodes) _ a.1 in
-    let c = or_parts (ltb (length t.constants) cap.constants) _ b.1 in
+    let a = or_parts (lacks cap t) _ h in
+    let v = or_parts (ltb (length t.values) cap.witnesses) _ a.0 in
+    let c = or_parts (ltb (length t.constants) cap.constants) _ a.1 in
     let d = or_parts (ltb (length t.nodes) cap.nodes) _ c.1 in
-    record { values = ltb-false _ _ a.0; worked = ltb-false _ _ b.0; constants = ltb-false _ _ c.0; nodes = ltb-false _ _ d.0; assertions = ltb-false _ _ d.1; structure = b.1 }
+    record { values = ltb-false _ _ v.0; worked = ltb-false _ _ v.1; constants = ltb-false _ _ c.0; nodes = ltb-false _ _ d.0; assertions = ltb-false _ _ d.1 }
 
 -- the witnesses' values, with one more where one is new
 pub handed : {E M : Type 0} (means : E → M) (vs vs' : List E) (n n' : ℕ) (x : E) (xs : List M) → n' ≤ length vs → n' ≡ n + length xs → Handed (means x) xs → vs' ≡ cond (ltb n n') (set vs n x) vs → map means (take n' vs') ≡ map means (take n vs) ++ xs
@@ -120,17 +120,6 @@ past_handed vs vs' n n' x is = elim (cases_lt n n') [
   | inr le ↦ ap (drop n') (is ∙ cond-false (ltb n n') _ _ (le-ltb n n' le))
 ]
 
--- the values that are written after the structure
-pub record Filled {E M : Type 0} (R : RingOn M) (means : E → M) (t : Book E) (cs' : List E) (ns' : List CircuitNode) (vs' ws' : List E) (x : E) (n n' : Counts) : Type 0 where
-  pub hands : vs' ≡ cond (ltb n.witnesses n'.witnesses) (set t.values n.witnesses x) t.values
-  pub works : map means (take n'.nodes ws') ≡ work_out R (of_constants (map means (take n'.constants cs'))) (map means (take n'.witnesses vs')) (map means (take n.nodes t.worked)) (drop n.nodes (take n'.nodes ns'))
-  pub past : drop n'.nodes ws' ≡ drop n'.nodes t.worked
-
--- as code has read the counts
-pub filled_by : {E M : Type 0} (R : RingOn M) (means : E → M) (t : Book E) (cs' : List E) (ns' : List CircuitNode) (vs' ws' : List E) (x : E) (b a n n' : Counts) → b ≡ n → a ≡ n' → Filled R means t cs' ns' vs' ws' x b a → Filled R means t cs' ns' vs' ws' x n n'
-filled_by R means t cs' ns' vs' ws' x b a n n' p q h =
-    subst (λ (m : Counts). Filled R means t cs' ns' vs' ws' x m n') p (subst (λ (m : Counts). Filled R means t cs' ns' vs' ws' x b m) q h)
-
 same_book : {E : Type 0} {cs cs' : List E} {ns ns' : List CircuitNode} {qs qs' : List (CircuitIdx × CircuitIdx)} (vs ws : List E) → cs' ≡ cs → ns' ≡ ns → qs' ≡ qs → book cs' ns' qs' vs ws ≡ book cs ns qs vs ws
 same_book {E} {cs} {cs'} {ns} {ns'} {qs} {qs'} vs ws a b c =
     ap (λ (x : List E). book x ns' qs' vs ws) a ∙ ap (λ (x : List CircuitNode). book cs x qs' vs ws) b ∙ ap (λ (x : List (CircuitIdx × CircuitIdx)). book cs ns x vs ws) c
@@ -153,32 +142,19 @@ module _ {E M : Type 0} (R : RingOn M) (means : E → M) (cap n : Counts) (t : B
   abbrev causes : Option ℕ
   causes = refusal (call_causes R cap S c)
 
-  -- a short table
-  pub refused_short : short cap t ≡ true → Called R means cap n n t t c (refused 2)
-  refused_short h = record {
-    too_short = λ _. refl;
-    stepped = λ s. absurd (both_ways _ s h);
-    unchanged = λ _ _. (refl, refl);
-    spare_constants = refl;
-    spare_nodes = refl;
-    spare_assertions = refl;
-    spare_values = refl;
-    spare_worked = refl;
-  }
-
   -- the verifier's step goes by the same causes
   by_causes : step R verifier cap V (erase c) ≡ step_by R verifier causes V (erase c)
   by_causes = ap (λ o. step_by R verifier (refusal o) V (erase c)) (erased R cap S c).causes
 
-  module _ (n' : Counts) (cs' : List E) (ns' : List CircuitNode) (qs' : List (CircuitIdx × CircuitIdx)) (p : Reply M) (long_enough : short cap t ≡ false) (made : Structured R means cap n n' t.constants cs' t.nodes ns' t.assertions qs' (erase c) p) where
+  module _ (n' : Counts) (cs' : List E) (ns' : List CircuitNode) (qs' : List (CircuitIdx × CircuitIdx)) (p : Reply M) (made : Structured R means cap n n' (lacks cap t) t.constants cs' t.nodes ns' t.assertions qs' (erase c) p) where
     abbrev V' : Worksheet M verifier
     V' = structure_in means n' cs' ns' qs'
 
-    replied : p ≡ (step_by R verifier causes V (erase c)).1
-    replied = (made.stepped (long cap t long_enough).structure).reply ∙ ap (λ (x : Worksheet M verifier × Reply M). x.1) by_causes
+    replied : short cap t ≡ false → p ≡ (step_by R verifier causes V (erase c)).1
+    replied s = (made.stepped s).reply ∙ ap (λ (x : Worksheet M verifier × Reply M). x.1) by_causes
 
-    left : V' ≡ (step_by R verifier causes V (erase c)).0
-    left = (made.stepped (long cap t long_enough).structure).worksheet ∙ ap (λ (x : Worksheet M verifier × Reply M). x.0) by_causes
+    left : short cap t ≡ false → V' ≡ (step_by R verifier causes V (erase c)).0
+    left s = (made.stepped s).worksheet ∙ ap (λ (x : Worksheet M verifier × Reply M). x.0) by_causes
 
     -- a refusal of the structure
     pub refused_so : (k : ℕ) → p ≡ refused k → Called R means cap n n' t (book cs' ns' qs' t.values t.worked) c p
@@ -186,10 +162,9 @@ module _ {E M : Type 0} (R : RingOn M) (means : E → M) (cap n : Counts) (t : B
         let same = made.unchanged k is in
         let tables = same_book t.values t.worked same.1 same.2 same.3 in
         let worksheet : worksheet_in means n' (book cs' ns' qs' t.values t.worked) ≡ W = ap (λ (m : Counts). worksheet_in means m (book cs' ns' qs' t.values t.worked)) same.0 ∙ ap (worksheet_in means n) tables in
-        let done = go causes replied in
         record {
-          too_short = λ s. absurd (both_ways _ long_enough s);
-          stepped = λ _. record { worksheet = worksheet ∙ sym (ap (λ (x : Worksheet M prover × Reply M). x.0) done); reply = sym (ap (λ (x : Worksheet M prover × Reply M). x.1) done) };
+          too_short = made.too_short;
+          stepped = λ s. let done = go causes (replied s) in record { worksheet = worksheet ∙ sym (ap (λ (x : Worksheet M prover × Reply M). x.0) done); reply = sym (ap (λ (x : Worksheet M prover × Reply M). x.1) done) };
           unchanged = λ _ _. (same.0, tables);
           spare_constants = ap (drop n'.constants) same.1;
           spare_nodes = ap (drop n'.nodes) same.2;
@@ -209,18 +184,18 @@ module _ {E M : Type 0} (R : RingOn M) (means : E → M) (cap n : Counts) (t : B
             absurd y
 
     -- the structure is written, and then the values
-    module _ (vs' ws' : List E) (x : E) (o : Option (Var M)) (is : p ≡ accepted o) (below : (n.nodes ≤ cap.nodes) × (n'.witnesses ≤ cap.witnesses)) (new : Handed (means x) (fresh R (values_of R W) c)) (filled : Filled R means t cs' ns' vs' ws' x n n') where
+    module _ (vs' ws' : List E) (x : E) (o : Option (Var M)) (is : p ≡ accepted o) (below : (n.nodes ≤ cap.nodes) × (n'.witnesses ≤ cap.witnesses)) (new : Handed (means x) (fresh R (values_of R W) c)) (filled : Filled R means n n' x (book cs' ns' qs' t.values t.worked) (book cs' ns' qs' vs' ws')) where
       abbrev W' : Worksheet M prover
       W' = worksheet_in means n' (book cs' ns' qs' vs' ws')
 
-      grown : V' ≡ (step_by R verifier None V (erase c)).0 → W' ≡ (step_by R prover None W c).0
-      grown e =
+      grown : short cap t ≡ false → V' ≡ (step_by R verifier None V (erase c)).0 → W' ≡ (step_by R prover None W c).0
+      grown s e =
           let T = (perform R S c).0 in
           let T' = V'.sheet in
           let sheet : T' ≡ T = ap (λ (U : Worksheet M verifier). U.sheet) e ∙ ap (λ (A : Answered M). A.0) (erased R cap S c).performs in
           let new_values = fresh R (values_of R W) c in
           let counted : n'.witnesses ≡ n.witnesses + length new_values = ap (λ (U : Sheet M). U.witnesses) sheet ∙ appends R (values_of R W) S c in
-          let ok = long cap t long_enough in
+          let ok = long cap t s in
           let given : map means (take n'.witnesses vs') ≡ W.given ++ new_values = handed means t.values vs' n.witnesses n'.witnesses x new_values (omega arith) counted new filled.hands in
           let first : n.nodes ≡ length S.nodes = sym (length-take-le n.nodes t.nodes (omega arith)) in
           let ρ' = map means (take n'.witnesses vs') in
@@ -234,8 +209,8 @@ module _ {E M : Type 0} (R : RingOn M) (means : E → M) (cap n : Counts) (t : B
 
       pub accepted_so : Called R means cap n n' t (book cs' ns' qs' vs' ws') c p
       accepted_so = record {
-        too_short = λ s. absurd (both_ways _ long_enough s);
-        stepped = λ _. let done = go causes replied left in record { worksheet = done.0; reply = done.1 };
+        too_short = λ s. let z : ◌≡◌ {A = ℕ} 0 1 = cc (is, made.too_short s) in let y : ⊥ = omega arith in absurd y;
+        stepped = λ s. let done = go s causes (replied s) (left s) in record { worksheet = done.0; reply = done.1 };
         unchanged = λ k e. let z : ◌≡◌ {A = ℕ} 0 1 = cc (is, e) in let y : ⊥ = omega arith in absurd y;
         spare_constants = made.spare.0;
         spare_nodes = made.spare.1;
@@ -244,6 +219,6 @@ module _ {E M : Type 0} (R : RingOn M) (means : E → M) (cap n : Counts) (t : B
         spare_worked = filled.past;
       }
         where
-          go : (b : Option ℕ) → p ≡ (step_by R verifier b V (erase c)).1 → V' ≡ (step_by R verifier b V (erase c)).0 → (W' ≡ (step_by R prover b W c).0) × (p ≡ (step_by R prover b W c).1)
-          go (Some j) e q = let z : ◌≡◌ {A = ℕ} 0 1 = cc (is, e) in let y : ⊥ = omega arith in absurd y
-          go None e q = (grown q, e ∙ (erased R cap S c).replies _ ∙ ap (λ (A : Answered M). reply c A.1) (erased R cap S c).performs)
+          go : short cap t ≡ false → (b : Option ℕ) → p ≡ (step_by R verifier b V (erase c)).1 → V' ≡ (step_by R verifier b V (erase c)).0 → (W' ≡ (step_by R prover b W c).0) × (p ≡ (step_by R prover b W c).1)
+          go s (Some j) e q = let z : ◌≡◌ {A = ℕ} 0 1 = cc (is, e) in let y : ⊥ = omega arith in absurd y
+          go s None e q = (grown s q, e ∙ (erased R cap S c).replies _ ∙ ap (λ (A : Answered M). reply c A.1) (erased R cap S c).performs)

@@ -1,6 +1,6 @@
 pub mod Entries
+pub mod Assertions
 pub mod WorkingOut
 pub mod Calling
 pub mod Asking
 pub mod Natives
-pub mod Assertions

@@ -5,7 +5,10 @@ use Rattle.ring.specs.Algebra.{RingOn}
 use Rattle.worksheet.specs.declared.Counts.{Counts}
 use Rattle.worksheet.specs.Law.{Stepped}
 use Rattle.worksheet.specs.Runs.{prover, Call, Reply}
-use Rattle.prover.specs.Book.{Book, short, worksheet_in}
+use Rattle.builder.specs.declared.Builder.{Builder}
+use Rattle.builder.specs.Called.{Lent}
+use Rattle.prover.specs.declared.Ledger.{Ledger}
+use Rattle.prover.specs.Book.{Book, held, short, worksheet_in}
 
 -- counts and tables before and after a call, n and n', t and t'
 pub record Called {E M : Type 0} (R : RingOn M) (means : E → M) (cap n n' : Counts) (t t' : Book E) (c : Call R prover) (p : Reply M) : Type 0 where
@@ -21,3 +24,11 @@ pub record Called {E M : Type 0} (R : RingOn M) (means : E → M) (cap n n' : Co
   pub spare_assertions : drop n'.assertions t'.assertions ≡ drop n'.assertions t.assertions
   pub spare_values : drop n'.witnesses t'.values ≡ drop n'.witnesses t.values
   pub spare_worked : drop n'.nodes t'.worked ≡ drop n'.nodes t.worked
+
+-- the same, at the capacity that the worksheet was opened with, in the tables that were lent
+pub record Made {E M : Type 0} (R : RingOn M) (means : E → M) (was is : Builder) (t t' : Ledger E) (c : Call R prover) (p : Reply M) : Type 0 where
+  pub called : Called R means was.capacity was.counts is.counts (held t) (held t') c p
+  pub capacity : is.capacity ≡ was.capacity
+  pub lent : Lent t.tables t'.tables
+  pub lent_values : t'.values.ghost_name ≡ t.values.ghost_name
+  pub lent_worked : t'.worked.ghost_name ≡ t.worked.ghost_name

@@ -1,3 +1,3 @@
 pub mod Book
 pub mod Called
-pub mod Requests
+pub mod Filled

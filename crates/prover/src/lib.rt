@@ -1,30 +1,25 @@
 // A prover's worksheet: its structure, and the value of every witness and node, in tables that the caller lends.
 #![tactic(auto)]
 
-use builder::Builder;
+use builder::Tables;
 use worksheet::{CircuitIdx, Counts};
 
-mod boolean;
-mod calls;
-mod division;
-mod elements;
-mod opening;
-mod reading;
-mod sealed_calls;
-mod verdict;
+mod role;
 mod view;
+mod witnesses;
 mod working;
 
-// A worksheet that takes calls.
-#[derive(Drop)]
-pub struct Open {
-    builder: Builder,
-}
+pub use witnesses::Witnesses;
 
-// A worksheet that takes no more calls.
+// The role of one who knows the witnesses' values.
+pub struct Prover;
+
+// The tables of a prover's worksheet: `values` has an entry for each witness, `worked` one for each node.
 #[derive(Drop)]
-pub struct Sealed {
-    builder: Builder,
+pub struct Ledger<'a, E> {
+    pub tables: Tables<'a, E>,
+    pub values: &'a mut [E],
+    pub worked: &'a mut [E],
 }
 
 // The values of a worksheet's ids, read from its tables.

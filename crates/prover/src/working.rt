@@ -1,15 +1,41 @@
 // The values of new witnesses and nodes.
 ghost use Rattle.std.specs.Prelude.{◌≡◌, ◌<◌, ◌≤◌, map, length, take, drop, if◌then◌else◌, nat_lt, slice_set};
-ghost use Rattle.worksheet.specs.Runs.{look, work_out};
-ghost use Rattle.worksheet.specs.Sheet.{combine, left_of, right_of};
-ghost use Rattle.prover.specs.Book.{of_constants};
+ghost use Rattle.worksheet.specs.Runs.{work_out};
+ghost use Rattle.prover.specs.Book.{held, lacks, of_constants};
+ghost use Rattle.prover.specs.Filled.{Filled};
 
-use super::reading::value_of;
+use super::{Ledger, Values};
 use ring::Ring;
-use worksheet::{CircuitIdx, CircuitNode, Counts};
+use worksheet::Counts;
+
+impl<'a, E> Ledger<'a, E> {
+    // Whether a table of values is shorter than its capacity.
+    pub(super) fn lacks(&self, capacity: Counts) -> bool
+        ensures { result ≡ lacks capacity (held self.now) }
+    {
+        self.values.len() < capacity.witnesses as usize
+            || self.worked.len() < capacity.nodes as usize
+    }
+
+    // The values of the ids below these counts.
+    pub(super) fn view(&self, counts: Counts) -> Values<'_, E>
+        ensures counts { result.counts ≡ counts }
+        ensures constants { result.constants.now ≡ self.now.tables.constants.now }
+        ensures values { result.values.now ≡ self.now.values.now }
+        ensures worked { result.worked.now ≡ self.now.worked.now }
+    {
+        Values {
+            counts,
+            constants: &*self.tables.constants,
+            assertions: &*self.tables.assertions,
+            values: &*self.values,
+            worked: &*self.worked,
+        }
+    }
+}
 
 // Writes the value of a new witness, if there is one.
-pub fn hand<E: Copy>(values: &mut [E], before: u32, after: u32, fresh: E)
+fn hand<E: Copy>(values: &mut [E], before: u32, after: u32, fresh: E)
     requires { after ≤ length values.old }
     ensures { values.new ≡ (if nat_lt before after then slice_set values.old before fresh else values.old) }
 {
@@ -18,50 +44,33 @@ pub fn hand<E: Copy>(values: &mut [E], before: u32, after: u32, fresh: E)
     }
 }
 
-// The sum or product of a node's operands' values.
-fn value_of_node<E: Ring>(
-    counts: Counts,
-    constants: &[E],
-    values: &[E],
-    worked: &[E],
-    node: CircuitNode,
-) -> E
-    ensures { E.means result ≡ combine E.algebra node (look E.algebra (of_constants (map E.means (take counts.constants constants.now))) (map E.means (take counts.witnesses values.now)) (map E.means (take counts.nodes worked.now)) (left_of node)) (look E.algebra (of_constants (map E.means (take counts.constants constants.now))) (map E.means (take counts.witnesses values.now)) (map E.means (take counts.nodes worked.now)) (right_of node)) }
-{
-    match node {
-        CircuitNode::Add(a, b) => {
-            let x = value_of(counts, constants, values, worked, a);
-            let y = value_of(counts, constants, values, worked, b);
-            x.add(y)
-        }
-        CircuitNode::Mul(a, b) => {
-            let x = value_of(counts, constants, values, worked, a);
-            let y = value_of(counts, constants, values, worked, b);
-            x.multiply(y)
+impl<'a, E: Ring> Ledger<'a, E> {
+    // Works out the values of the nodes from `first` on.
+    fn work_out(&mut self, counts: Counts, first: u32)
+        requires { (first ≤ counts.nodes) × ((counts.nodes ≤ length self.old.tables.nodes.now) × (counts.nodes ≤ length self.old.worked.now)) }
+        ensures values { map E.means (take counts.nodes self.new.worked.now) ≡ work_out E.algebra (of_constants (map E.means (take counts.constants self.old.tables.constants.now))) (map E.means (take counts.witnesses self.old.values.now)) (map E.means (take first self.old.worked.now)) (drop first (take counts.nodes self.old.tables.nodes.now)) }
+        ensures spare { drop counts.nodes self.new.worked.now ≡ drop counts.nodes self.old.worked.now }
+        ensures structure { self.new.tables ≡ self.old.tables }
+        ensures handed { self.new.values ≡ self.old.values }
+        ensures lent { self.new.worked.ghost_name ≡ self.old.worked.ghost_name }
+    {
+        for k in first..counts.nodes {
+            let so_far = Counts { nodes: k, ..counts };
+            let node = self.tables.nodes[k as usize];
+            let value = self.view(so_far).work(node);
+            self.worked[k as usize] = value;
         }
     }
-}
 
-// Works out the values of the nodes from `first` on.
-pub fn work_out<E: Ring>(
-    counts: Counts,
-    first: u32,
-    constants: &[E],
-    nodes: &[CircuitNode],
-    values: &[E],
-    worked: &mut [E],
-)
-    requires { (first ≤ counts.nodes) × ((counts.nodes ≤ length nodes.now) × (counts.nodes ≤ length worked.old)) }
-    ensures values { map E.means (take counts.nodes worked.new) ≡ work_out E.algebra (of_constants (map E.means (take counts.constants constants.now))) (map E.means (take counts.witnesses values.now)) (map E.means (take first worked.old)) (drop first (take counts.nodes nodes.now)) }
-    ensures spare { drop counts.nodes worked.new ≡ drop counts.nodes worked.old }
-{
-    for k in first..counts.nodes {
-        let so_far = Counts {
-            constants: counts.constants,
-            witnesses: counts.witnesses,
-            nodes: k,
-            assertions: counts.assertions,
-        };
-        worked[k as usize] = value_of_node(so_far, constants, values, worked, nodes[k as usize]);
+    // Fills in what the entries between two counts are worth; a new witness is handed `fresh`.
+    pub(super) fn fill(&mut self, before: Counts, after: Counts, fresh: E)
+        requires witnesses { after.witnesses ≤ length self.old.values.now }
+        requires nodes { (before.nodes ≤ after.nodes) × ((after.nodes ≤ length self.old.tables.nodes.now) × (after.nodes ≤ length self.old.worked.now)) }
+        ensures filled { Filled E.algebra E.means before after fresh (held self.old) (held self.new) }
+        ensures structure { self.new.tables ≡ self.old.tables }
+        ensures lent { (self.new.values.ghost_name ≡ self.old.values.ghost_name) × (self.new.worked.ghost_name ≡ self.old.worked.ghost_name) }
+    {
+        hand(self.values, before.witnesses, after.witnesses, fresh);
+        self.work_out(after, before.nodes);
     }
 }

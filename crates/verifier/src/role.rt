@@ -1,7 +1,7 @@
 // A verifier's role: its tables hold the structure alone.
 ghost use Rattle.std.specs.Prelude.{false};
 ghost use Rattle.worksheet.specs.Runs.{erase};
-ghost use Rattle.builder.specs.Called.{short, Made};
+ghost use Rattle.builder.specs.Called.{short, Stays, Made};
 
 use super::Verifier;
 use builder::{Builder, Request, Role, Tables};
@@ -17,6 +17,8 @@ impl<'a, E: Ring> Role<E, Tables<'a, E>> for Verifier {
     ghost Hands = { λ M x y. Unit {0} };
 
     ghost Does = { λ M R means was is t t' c p. Made R means false was is t t' (erase c) p };
+
+    ghost Stays = { λ was is t t'. Stays was is t t' };
 
     fn is_short(capacity: Counts, tables: &Tables<'a, E>) -> bool {
         tables.are_short(capacity)

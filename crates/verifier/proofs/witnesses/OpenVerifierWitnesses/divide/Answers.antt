@@ -1,7 +1,8 @@
-use Rattle.std.proofs.Common.{false, [], ◌∷◌, Some, refl, ap, ◌∙◌, arith}
+use Rattle.std.proofs.Common.{false, [], ◌∷◌, Some, refl, ap, ◌∙◌}
 use Rattle.worksheet.specs.declared.Var.TheVariants.{Native}
 use Rattle.worksheet.specs.Runs.{divide}
 use Rattle.builder.specs.Tables.{sheet_in}
+use Rattle.builder.proofs.Asking.{unmoved}
 use Rattle.builder.proofs.Calling.{answered_call}
 use Rattle.builder.proofs.Sizes.{zero_sized}
 use Rattle.verifier.proofs.witnesses.OpenVerifierWitnesses.divide.Goals as goal
@@ -21,17 +22,15 @@ returns-in-Native-Native g c =
       F,
       record {
         called = answered_call r.algebra r.means o false t.constants.now t.nodes.now t.assertions.now (divide F (Native x) (Native y)) (S, Native (r.algebra.times x (F.inverse y))) Some (Native c.in-Native-Native.x ∷ (Native c.in-Native-Native.y ∷ [])) refl (record { named = refl; clash_is = refl; sized = zero_sized S; performs = refl; replies = λ _. refl }) refl (Native c.multiply.result) (ap Native product) c.answer.result c.answer.ensures;
-        capacity = refl;
-        grows = (omega arith, omega arith, omega arith, omega arith);
-        lent = record { constants = refl; nodes = refl; assertions = refl };
+        stays = unmoved o t;
       },
     )
 
 pub returns-in-Native-Circuit : goal.returns-in-Native-Circuit
-returns-in-Native-Circuit g c = rw (c.in-Native-Circuit.is-0, c.in-Native-Circuit.is-1) (λ F. c.call.ensures F tt)
+returns-in-Native-Circuit g c = rw (c.in-Native-Circuit.is-0, c.in-Native-Circuit.is-1) (λ F. c.call.ensures.called F tt)
 
 pub returns-in-Circuit-Native : goal.returns-in-Circuit-Native
-returns-in-Circuit-Native g c = rw (c.in-Circuit-Native.is-0, c.in-Circuit-Native.is-1) (λ F. c.call-in-Circuit-Native.ensures F tt)
+returns-in-Circuit-Native g c = rw (c.in-Circuit-Native.is-0, c.in-Circuit-Native.is-1) (λ F. c.call-in-Circuit-Native.ensures.called F tt)
 
 pub returns-in-Circuit-Circuit : goal.returns-in-Circuit-Circuit
-returns-in-Circuit-Circuit g c = rw (c.in-Circuit-Circuit.is-0, c.in-Circuit-Circuit.is-1) (λ F. c.call-in-Circuit-Circuit.ensures F tt)
+returns-in-Circuit-Circuit g c = rw (c.in-Circuit-Circuit.is-0, c.in-Circuit-Circuit.is-1) (λ F. c.call-in-Circuit-Circuit.ensures.called F tt)
