@@ -12,14 +12,20 @@ use refusal::Refusal;
 use ring::Ring;
 use worksheet::Var;
 
+// One or zero.
+pub fn bit<E: Ring>(value: bool) -> E
+    ensures { E.means result ≡ bit E.algebra value }
+{
+    if value { E::one() } else { E::zero() }
+}
+
 impl<E: Ring> BoolVar<E> {
     // Native one or zero.
     pub fn constant(value: bool) -> BoolVar<E>
         ensures { var_means E.means result.var ≡ Native (bit E.algebra value) }
     {
-        let x = if value { E::one() } else { E::zero() };
         BoolVar {
-            var: Var::Native(x),
+            var: Var::Native(bit(value)),
         }
     }
 

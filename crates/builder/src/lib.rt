@@ -17,6 +17,7 @@ mod requests;
 mod roles;
 mod writing;
 
+pub use boolean::bit;
 pub use roles::Role;
 
 // How much of its tables a worksheet has filled.

@@ -1,23 +1,27 @@
 -- What holds of the verifier's call of a request holds of the prover's.
-use Rattle.std.proofs.Common.{◌≡◌, List, [], ◌∷◌, sym, refl, ap, ◌∙◌, inl, inr}
+use Rattle.std.proofs.Common.{◌≡◌, ℕ, Bool, List, [], ◌∷◌, Option, sym, refl, ap, ◌∙◌, subst, inl, inr, arith}
+use Rattle.refusal.specs.Outcome.{accepted, refused}
 use Rattle.ring.specs.Algebra.{RingOn}
 use Rattle.worksheet.specs.declared.CircuitIdx.{CircuitIdx}
-use Rattle.worksheet.specs.declared.CircuitNode.{CircuitNode}
 use Rattle.worksheet.specs.declared.Counts.{Counts}
+use Rattle.worksheet.specs.declared.Var.{Var}
 use Rattle.worksheet.specs.declared.Var.TheVariants.{Native, Circuit}
 use Rattle.worksheet.specs.Calls.{var_means}
-use Rattle.worksheet.specs.Runs.{prover, verifier, Call, Reply, Worksheet, erase, step, fresh, assert_equal, boolean_assert, boolean_witness, witness, divide, invert}
-use Rattle.worksheet.proofs.Stepping.{any_decision, any_square}
+use Rattle.worksheet.specs.Runs.{prover, verifier, Call, Reply, erase, fresh, values_of, assert_equal, boolean_assert, boolean_witness, witness, divide, invert}
+use Rattle.builder.specs.declared.Builder.{Builder}
+use Rattle.builder.specs.declared.Tables.{Tables}
 use Rattle.builder.specs.declared.Request.{Request}
 use Rattle.builder.specs.declared.Request.TheVariants.{Constant, Witness, Add, Multiply, Negate, Subtract, DivideBy, DivideId, Invert, AssertEqual, BooleanWitness, BooleanAssert, Not, And, Or, Select}
-use Rattle.builder.specs.declared.Builder.{Builder}
-use Rattle.builder.specs.Called.{Made as Structured}
+use Rattle.builder.specs.Called.{Called as HalfCalled, Stays as StructureStays, Made as Structured}
 use Rattle.builder.specs.Requests.{Of, OfStructure}
 use Rattle.prover.specs.declared.Ledger.{Ledger}
-use Rattle.prover.specs.Book.{Book, book, held, lacks, short, worksheet_in}
-use Rattle.prover.specs.Called.{Called, Made}
+use Rattle.prover.specs.Book.{book, held, lacks, worksheet_in}
+use Rattle.prover.specs.Called.{Called, Stays, Made}
 use Rattle.prover.specs.Filled.{Filled}
-use Rattle.prover.proofs.Calling.{Handed}
+use Rattle.prover.proofs.Calling.{Handed, refused_so, accepted_so}
+
+pair : {A : Type 0} {x y u v : A} → x ≡ y → u ≡ v → ◌≡◌ {A = A × A} (y, v) (x, u)
+pair {A} {x} {y} {u} {v} p q = ap (λ (a : A). (a, v)) (sym p) ∙ ap (λ (b : A). (x, b)) (sym q)
 
 module _ {E M : Type 0} (R : RingOn M) (means : E → M) (val : CircuitIdx → M) (x : M) where
   one : {y : M} → x ≡ y → ◌≡◌ {A = List M} (y ∷ []) (x ∷ [])
@@ -43,23 +47,44 @@ module _ {E M : Type 0} (R : RingOn M) (means : E → M) (val : CircuitIdx → M
   of_made (Or a b) Made k P h = h _ k (inl refl)
   of_made (Select b t f) Made k P h = h _ k (inl refl)
 
--- a request as a whole, by what it does to the structure
-module _ {E M : Type 0} (R : RingOn M) (means : E → M) (was is : Builder) (t t' : Ledger E) (x : E) (q : Request E) where
+-- a request as a whole, by what it does to the structure; code has found whether tables of values are short
+module _ {E M : Type 0} (R : RingOn M) (means : E → M) (was is : Builder) (t t' : Ledger E) (x : E) (q : Request E) (lacking : Bool) (is_lacking : lacking ≡ lacks was.capacity (held t)) where
   abbrev val : CircuitIdx → M
   val = values_of R (worksheet_in means was.counts (held t))
 
   abbrev Written : Reply M → Call R verifier → Type 0
-  Written p c = Structured R means (lacks was.capacity (held t)) was is t.tables t'.tables c p
+  Written p c = Structured R means lacking was is t.tables t'.tables c p
 
-  pub refused_request : (k : ℕ) → t'.values ≡ t.values → t'.worked ≡ t.worked → OfStructure R means q (Written (refused k)) → Of R means val (λ y. means x ≡ y) q (λ c. Made R means was is t t' c (refused k))
-  refused_request k vs ws made = of_made R means val (means x) q (Written (refused k)) made (λ c. Made R means was is t t' c (refused k)) (λ c so new. record {
-    called = subst (λ (b : Book E). Called R means was.capacity was.counts is.counts (held t) b c (refused k)) (same_values t.tables t'.tables t.values t'.values t.worked t'.worked (sym vs) (sym ws))
-    (refused_so R means was.capacity was.counts (held t) c is.counts t'.tables.constants.now t'.tables.nodes.now t'.tables.assertions.now (refused k) so.called k refl);
-    capacity = so.capacity;
-    lent = so.lent;
-    lent_values = ap (λ r. r.ghost_name) vs;
-    lent_worked = ap (λ r. r.ghost_name) ws;
+  abbrev Half : Reply M → Call R verifier → Type 0
+  Half p c = HalfCalled R means was.capacity was.counts is.counts (lacks was.capacity (held t)) t.tables.constants.now t'.tables.constants.now t.tables.nodes.now t'.tables.nodes.now t.tables.assertions.now t'.tables.assertions.now c p
+
+  half : (p : Reply M) (c : Call R verifier) → Written p c → Half p c
+  half p c made = subst (λ (b : Bool). HalfCalled R means was.capacity was.counts is.counts b t.tables.constants.now t'.tables.constants.now t.tables.nodes.now t'.tables.nodes.now t.tables.assertions.now t'.tables.assertions.now c p) is_lacking made.called
+
+  pub refused_request : (k : ℕ) → t'.values ≡ t.values → t'.worked ≡ t.worked → Stays was is t t' → OfStructure R means q (Written (refused k)) → Of R means val (λ y. means x ≡ y) q (λ c. Made R means was is t t' c (refused k))
+  refused_request k vs ws stays made = of_made R means val (means x) q (Written (refused k)) made (λ c. Made R means was is t t' c (refused k)) (λ c so new. record {
+    called = subst (λ (b : List E × List E). Called R means was.capacity was.counts is.counts (held t) (book t'.tables.constants.now t'.tables.nodes.now t'.tables.assertions.now b.0 b.1) c (refused k)) (pair (ap (λ r. r.now) vs) (ap (λ r. r.now) ws))
+    (refused_so R means was.capacity was.counts (held t) c is.counts t'.tables.constants.now t'.tables.nodes.now t'.tables.assertions.now (refused k) (half (refused k) (erase c) so) k refl);
+    stays = stays;
   })
 
-  pub accepted_request : (o : Option (Var M)) → OfStructure R means q (Written (accepted o)) → t'.values.ghost_name ≡ t.values.ghost_name → t'.worked.ghost_name ≡ t.worked.ghost_name → (short was.capacity (held t) ≡ false → Filled R means was.counts is.counts x (book t'.tables.constants.now t'.tables.nodes.now t'.tables.assertions.now t.values.now t.worked.now) (held t')) → Of R means val (λ y. means x ≡ y) q (λ c. Made R means was is t t' c (accepted o))
-  accepted_request o made vs ws filled = ?
+  -- once the structure is written, in tables m
+  abbrev Then : Tables E → Option (Var M) → Type 0
+  Then m o = StructureStays was is t.tables m × Filled R means was.counts is.counts x (book m.constants.now m.nodes.now m.assertions.now t.values.now t.worked.now) (held t') × OfStructure R means q (λ c. Structured R means lacking was is t.tables m c (accepted o))
+
+  accepted_then : (o : Option (Var M)) → t'.values.ghost_name ≡ t.values.ghost_name → t'.worked.ghost_name ≡ t.worked.ghost_name → Then t'.tables o → Of R means val (λ y. means x ≡ y) q (λ c. Made R means was is t t' c (accepted o))
+  accepted_then o vs ws h =
+      let below = was.below in
+      let below' = is.below in
+      let cap = ap (λ (k : Counts). k.witnesses) h.0.capacity in
+      of_made R means val (means x) q (Written (accepted o)) h.2 (λ c. Made R means was is t t' c (accepted o)) (λ c so new. record {
+        called = accepted_so R means was.capacity was.counts (held t) c is.counts t'.tables.constants.now t'.tables.nodes.now t'.tables.assertions.now (accepted o) (half (accepted o) (erase c) so) t'.values.now t'.worked.now x o refl (below.2, omega arith) new h.1;
+        stays = record { structure = h.0; lent_values = vs; lent_worked = ws };
+      })
+
+  -- b and a are the counts as code has read them
+  pub accepted_request : (m : Tables E) (o : Option (Var M)) (b a : Counts) → t'.tables ≡ m → b ≡ was.counts → a ≡ is.counts → StructureStays was is t.tables m → t'.values.ghost_name ≡ t.values.ghost_name → t'.worked.ghost_name ≡ t.worked.ghost_name → Filled R means b a x (book m.constants.now m.nodes.now m.assertions.now t.values.now t.worked.now) (held t') → OfStructure R means q (λ c. Structured R means lacking was is t.tables m c (accepted o)) → Of R means val (λ y. means x ≡ y) q (λ c. Made R means was is t t' c (accepted o))
+  accepted_request m o b a same is_b is_a stays vs ws filled made =
+      let old = book m.constants.now m.nodes.now m.assertions.now t.values.now t.worked.now in
+      let filled' = subst (λ (n : Counts). Filled R means n is.counts x old (held t')) is_b (subst (λ (n : Counts). Filled R means b n x old (held t')) is_a filled) in
+      accepted_then o vs ws (subst (λ (m : Tables E). Then m o) (sym same) (stays, filled', made))

@@ -7,19 +7,25 @@ use Rattle.refusal.specs.declared.Refusal.{Refusal}
 use Rattle.refusal.specs.declared.Refusal.TheVariants.{ShortTable}
 use Rattle.refusal.specs.Outcome.{outcome, accepted, refused}
 use Rattle.ring.specs.Algebra.{RingOn, FieldOf}
+use Rattle.worksheet.specs.declared.CircuitIdx.{CircuitIdx}
 use Rattle.worksheet.specs.declared.Counts.{Counts}
 use Rattle.worksheet.specs.declared.Var.{Var}
 use Rattle.worksheet.specs.declared.Var.TheVariants.{Native, Circuit}
 use Rattle.worksheet.specs.Sheet.{Sheet}
 use Rattle.worksheet.specs.Calls.{Answered, var_means}
-use Rattle.worksheet.specs.Runs.{prover, Call, Reply, Worksheet, perform, reply, operands, all_known, clashes, fresh, values_of, look, work_out, divide, invert}
+use Rattle.worksheet.specs.Runs.{prover, Call, Reply, Worksheet, perform, reply, operands, all_known, clashes, fresh, values_of, work_out, divide, invert}
 use Rattle.worksheet.proofs.Stepping.{accepts_step}
+use Rattle.builder.specs.declared.Builder.{Builder}
+use Rattle.builder.specs.Requests.{worth}
 use Rattle.builder.specs.Within.{Within}
-use Rattle.prover.specs.Book.{Book, short, sheet_of, worksheet_in, of_constants}
-use Rattle.prover.specs.Called.{Called}
-use Rattle.prover.specs.Requests.{worth}
+use Rattle.builder.proofs.Asking.{unmoved}
+use Rattle.prover.specs.declared.Ledger.{Ledger}
+use Rattle.prover.specs.declared.Values.{Values}
+use Rattle.prover.specs.Book.{Book, held, short, sheet_of, worksheet_in, read}
+use Rattle.prover.specs.Called.{Called, Stays}
 use Rattle.prover.proofs.Calling.{long, same_worksheet}
 use Rattle.prover.proofs.Entries.{look_by}
+use Rattle.prover.proofs.WorkingOut.{read_by}
 
 module _ {E M : Type 0} (R : RingOn M) (means : E → M) (cap n : Counts) (t : Book E) where
   abbrev S : Sheet M
@@ -55,13 +61,6 @@ module _ {E M : Type 0} (R : RingOn M) (means : E → M) (cap n : Counts) (t : B
     spare_worked = refl;
   }
 
-  -- a call of operands that are known to be others
-  pub of_one : (n' : Counts) (t' : Book E) (f : Var M → Call R prover) (p : Reply M) (a b : Var E) → a ≡ b → Called R means cap n n' t t' (f (var_means means b)) p → Called R means cap n n' t t' (f (var_means means a)) p
-  of_one n' t' f p a b e = subst (λ (v : Var E). Called R means cap n n' t t' (f (var_means means v)) p) (sym e)
-
-  pub of_two : (n' : Counts) (t' : Book E) (f : Var M → Var M → Call R prover) (p : Reply M) (a b x y : Var E) → a ≡ x → b ≡ y → Called R means cap n n' t t' (f (var_means means x) (var_means means y)) p → Called R means cap n n' t t' (f (var_means means a) (var_means means b)) p
-  of_two n' t' f p a b x y d e h = of_one n' t' (λ v. f v (var_means means b)) p a x d (of_one n' t' (f (var_means means x)) p b y e h)
-
   module _ (below : Within n cap) (F : FieldOf R) (q : E) (r : Result (Var E) Refusal) (is : r ≡ cond (short cap t) (Err ShortTable) (Ok (Native q))) where
     abbrev shown : Result (Var E) Refusal → Reply M
     shown a = outcome (λ v. Some (var_means means v)) a
@@ -78,7 +77,25 @@ module _ {E M : Type 0} (R : RingOn M) (means : E → M) (cap n : Counts) (t : B
     pub native_inverse : (x : M) → means q ≡ F.inverse x → Called R means cap n n t t (invert F (Native x)) (outcome (λ v. Some (var_means means v)) r)
     native_inverse x e = native_called (invert F (Native x)) _ below refl refl refl refl refl _ lacking (having _ e)
 
--- a variable's value depends on the constants alone of a worksheet
-pub worth_by : {M : Type 0} (R : RingOn M) (S : Sheet M) (ρ ws : List M) (v : Var M) → worth (look R (of_constants S.constants) ρ ws) v ≡ worth (look R S ρ ws) v
-worth_by R S ρ ws (Native x) = refl
-worth_by R S ρ ws (Circuit i) = look_by R S ρ ws i
+-- variables' values, seen through a view of the ledger t by the counts of o
+module _ {E M : Type 0} (R : RingOn M) (means : E → M) (o : Builder) (t : Ledger E) where
+  abbrev val : CircuitIdx → M
+  val = values_of R (worksheet_in means o.counts (held t))
+
+  pub worth_seen : (v : Values E) (n : Counts) → n ≡ o.counts → v.counts ≡ n → v.constants.now ≡ t.tables.constants.now → v.values.now ≡ t.values.now → v.worked.now ≡ t.worked.now → (a : Var M) → worth (read R means v.counts v.constants.now v.values.now v.worked.now) a ≡ worth val a
+  worth_seen v n is_n p q r s (Native x) = refl
+  worth_seen v n is_n p q r s (Circuit i) =
+      let W = worksheet_in means o.counts (held t) in
+      read_by R means _ _ _ _ _ _ _ _ (p ∙ is_n) q r s i ∙ look_by R W.sheet W.given W.worked i
+
+  -- a quotient's value by what its operands are known to be
+  pub quotient_at : (F : FieldOf R) (z : M) (a b x y : Var E) → a ≡ x → b ≡ y → z ≡ R.times (worth val (var_means means a)) (F.inverse (worth val (var_means means b))) → z ≡ R.times (worth val (var_means means x)) (F.inverse (worth val (var_means means y)))
+  quotient_at F z a b x y p q e =
+      e ∙ ap (λ (v : Var E). R.times (worth val (var_means means v)) (F.inverse (worth val (var_means means b)))) p ∙ ap (λ (v : Var E). R.times (worth val (var_means means x)) (F.inverse (worth val (var_means means v)))) q
+
+  pub inverse_at : (F : FieldOf R) (z : M) (a x : Var E) → a ≡ x → z ≡ F.inverse (worth val (var_means means a)) → z ≡ F.inverse (worth val (var_means means x))
+  inverse_at F z a x p e = e ∙ ap (λ (v : Var E). F.inverse (worth val (var_means means v))) p
+
+-- a call that changes nothing
+pub unmoved_ledger : {E : Type 0} (o : Builder) (t : Ledger E) → Stays o o t t
+unmoved_ledger o t = record { structure = unmoved o t.tables; lent_values = refl; lent_worked = refl }

@@ -6,7 +6,7 @@ use Rattle.worksheet.specs.declared.Counts.{Counts}
 use Rattle.worksheet.specs.Law.{Stepped}
 use Rattle.worksheet.specs.Runs.{prover, Call, Reply}
 use Rattle.builder.specs.declared.Builder.{Builder}
-use Rattle.builder.specs.Called.{Lent}
+use Rattle.builder.specs.Called.{Stays as StructureStays}
 use Rattle.prover.specs.declared.Ledger.{Ledger}
 use Rattle.prover.specs.Book.{Book, held, short, worksheet_in}
 
@@ -25,10 +25,13 @@ pub record Called {E M : Type 0} (R : RingOn M) (means : E → M) (cap n n' : Co
   pub spare_values : drop n'.witnesses t'.values ≡ drop n'.witnesses t.values
   pub spare_worked : drop n'.nodes t'.worked ≡ drop n'.nodes t.worked
 
--- the same, at the capacity that the worksheet was opened with, in the tables that were lent
-pub record Made {E M : Type 0} (R : RingOn M) (means : E → M) (was is : Builder) (t t' : Ledger E) (c : Call R prover) (p : Reply M) : Type 0 where
-  pub called : Called R means was.capacity was.counts is.counts (held t) (held t') c p
-  pub capacity : is.capacity ≡ was.capacity
-  pub lent : Lent t.tables t'.tables
+-- what every call keeps: what it keeps of the structure, and the memory of the values
+pub record Stays {E : Type 0} (was is : Builder) (t t' : Ledger E) : Type 0 where
+  pub structure : StructureStays was is t.tables t'.tables
   pub lent_values : t'.values.ghost_name ≡ t.values.ghost_name
   pub lent_worked : t'.worked.ghost_name ≡ t.worked.ghost_name
+
+-- a call on a worksheet, at the capacity that it was opened with
+pub record Made {E M : Type 0} (R : RingOn M) (means : E → M) (was is : Builder) (t t' : Ledger E) (c : Call R prover) (p : Reply M) : Type 0 where
+  pub called : Called R means was.capacity was.counts is.counts (held t) (held t') c p
+  pub stays : Stays was is t t'

@@ -2,7 +2,7 @@
 ghost use Rattle.std.specs.Prelude.{◌≡◌};
 ghost use Rattle.worksheet.specs.Runs.{values_of};
 ghost use Rattle.prover.specs.Book.{held, short, worksheet_in};
-ghost use Rattle.prover.specs.Called.{Made};
+ghost use Rattle.prover.specs.Called.{Stays, Made};
 
 use super::{Ledger, Prover};
 use builder::{Builder, Request, Role};
@@ -18,6 +18,8 @@ impl<'a, E: Ring> Role<E, Ledger<'a, E>> for Prover {
     ghost Hands = { λ M x y. x ≡ y };
 
     ghost Does = { λ M R means was is t t' c p. Made R means was is t t' c p };
+
+    ghost Stays = { λ was is t t'. Stays was is t t' };
 
     fn is_short(capacity: Counts, ledger: &Ledger<'a, E>) -> bool {
         ledger.lacks(capacity) || ledger.tables.are_short(capacity)

@@ -8,7 +8,7 @@ ghost use Rattle.builder.specs.declared.Builder.{Builder};
 ghost use Rattle.prover.specs.Called.{Made};
 
 use super::{Ledger, Prover};
-use builder::{BoolRequest, BoolVar, Open, Request};
+use builder::{BoolRequest, BoolVar, Open, Request, bit};
 use refusal::Refusal;
 use ring::{Field, Ring};
 use worksheet::Var;
@@ -66,8 +66,7 @@ impl Witnesses for Open<Prover> {
         ledger: &mut Ledger<'_, E>,
         value: bool,
     ) -> Result<BoolVar<E>, Refusal> {
-        let fresh = if value { E::one() } else { E::zero() };
-        self.boolean(ledger, BoolRequest::Witness, fresh)
+        self.boolean(ledger, BoolRequest::Witness, bit(value))
     }
 
     fn divide<E: Field>(

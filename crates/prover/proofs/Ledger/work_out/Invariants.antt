@@ -1,4 +1,4 @@
-use Rattle.std.proofs.Common.{◌≡◌, map, take, drop}
+use Rattle.std.proofs.Common.{◌≡◌, map, take, drop, length}
 use Rattle.worksheet.specs.Runs.{work_out}
 use Rattle.prover.specs.Book.{of_constants}
 use Rattle.prover.proofs.Ledger.work_out.Given as goal
