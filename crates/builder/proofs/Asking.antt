@@ -141,6 +141,6 @@ module _ {E M : Type 0} (R : RingOn M) (means : E → M) (o : Builder) (f : Bool
     pub accepted_request : OfStructure R means q (λ c. Made R means f o is t t' c (accepted (shown R means q (var_means means v))))
     accepted_request = of_asked R means S q clash is_clash (λ c. Made R means f o is t t' c (accepted (shown R means q (var_means means v)))) (λ c asked. record {
       called = subst (λ (j : Counts). Called R means o.capacity o.counts j f t.constants.now t'.constants.now t.nodes.now t'.nodes.now t.assertions.now t'.assertions.now c (accepted (shown R means q (var_means means v)))) (sym counted)
-      (accepted_call R means o f t.constants.now t.nodes.now t.assertions.now c (vars q) clash (request_cost q).counts (performed R means S q) (shown R means q) asked b k n is_short is_known is_cost e d d' v cs ns qs wrote.grew wrote.answer t'.constants.now t'.nodes.now t'.assertions.now cs' ns' qs');
+          (accepted_call R means o f t.constants.now t.nodes.now t.assertions.now c (vars q) clash (request_cost q).counts (performed R means S q) (shown R means q) asked b k n is_short is_known is_cost e d d' v cs ns qs wrote.grew wrote.answer t'.constants.now t'.nodes.now t'.assertions.now cs' ns' qs');
       stays = moved;
     })

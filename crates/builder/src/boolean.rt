@@ -78,11 +78,7 @@ impl<R> Open<R> {
         self.boolean(tables, BoolRequest::Assert(a), E::zero())
     }
 
-    pub fn not<E: Ring, T>(
-        &mut self,
-        tables: &mut T,
-        a: BoolVar<E>,
-    ) -> Result<BoolVar<E>, Refusal>
+    pub fn not<E: Ring, T>(&mut self, tables: &mut T, a: BoolVar<E>) -> Result<BoolVar<E>, Refusal>
     where
         R: Role<E, T>,
         ensures { R.Does E.Member E.algebra E.means self.old.builder self.new.builder tables.old tables.new (boolean_not_call (var_means E.means a.var)) (outcome (λ v. Some (var_means E.means v.var)) result) }

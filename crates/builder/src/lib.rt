@@ -15,6 +15,7 @@ mod life;
 mod opening;
 mod requests;
 mod roles;
+mod sealing;
 mod writing;
 
 pub use boolean::bit;

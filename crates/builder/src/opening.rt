@@ -36,17 +36,3 @@ impl<R> Open<R> {
         }
     }
 }
-
-impl<R> Sealed<R> {
-    pub fn counts(&self) -> Counts
-        ensures { result ≡ self.now.builder.counts }
-    {
-        self.builder.counts()
-    }
-
-    pub fn capacity(&self) -> Counts
-        ensures { result ≡ self.now.builder.capacity }
-    {
-        self.builder.capacity()
-    }
-}

@@ -64,7 +64,7 @@ module _ {E M : Type 0} (R : RingOn M) (means : E → M) (was is : Builder) (t t
   pub refused_request : (k : ℕ) → t'.values ≡ t.values → t'.worked ≡ t.worked → Stays was is t t' → OfStructure R means q (Written (refused k)) → Of R means val (λ y. means x ≡ y) q (λ c. Made R means was is t t' c (refused k))
   refused_request k vs ws stays made = of_made R means val (means x) q (Written (refused k)) made (λ c. Made R means was is t t' c (refused k)) (λ c so new. record {
     called = subst (λ (b : List E × List E). Called R means was.capacity was.counts is.counts (held t) (book t'.tables.constants.now t'.tables.nodes.now t'.tables.assertions.now b.0 b.1) c (refused k)) (pair (ap (λ r. r.now) vs) (ap (λ r. r.now) ws))
-    (refused_so R means was.capacity was.counts (held t) c is.counts t'.tables.constants.now t'.tables.nodes.now t'.tables.assertions.now (refused k) (half (refused k) (erase c) so) k refl);
+        (refused_so R means was.capacity was.counts (held t) c is.counts t'.tables.constants.now t'.tables.nodes.now t'.tables.assertions.now (refused k) (half (refused k) (erase c) so) k refl);
     stays = stays;
   })
 

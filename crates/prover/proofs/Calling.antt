@@ -1,7 +1,7 @@
 -- A call whose structure is written, and then its values, is the step of its definition, and so is one that is refused.
-use Rattle.std.proofs.Common.{◌≡◌, ℕ, ◌+◌, ◌≤◌, true, false, cond, ltb, ◌⊎◌, List, [], ◌∷◌, ◌++◌, map, length, take, drop, set, Some, None, Option, sym, refl, ap, ◌∙◌, subst, inl, inr, arith}
+use Rattle.std.proofs.Common.{◌≡◌, ℕ, ◌+◌, ◌≤◌, false, cond, ltb, ◌⊎◌, List, [], ◌∷◌, ◌++◌, map, length, take, drop, set, Some, None, Option, sym, refl, ap, ◌∙◌, inl, inr, arith}
 use Rattle.std.proofs.lemmas.List.{append-nil, length-take-le, take_more_set, map_push, drop-set-lt}
-use Rattle.std.proofs.lemmas.Bool.{or_parts, ltb-false, both_ways, cond-true, cond-false, le-ltb, lt-ltb, cases_lt}
+use Rattle.std.proofs.lemmas.Bool.{or_parts, ltb-false, cond-true, cond-false, le-ltb, lt-ltb, cases_lt}
 use Rattle.refusal.specs.Outcome.{accepted, refused}
 use Rattle.ring.specs.Algebra.{RingOn}
 use Rattle.worksheet.specs.declared.CircuitIdx.{CircuitIdx}
@@ -45,7 +45,7 @@ use Rattle.worksheet.specs.Runs.{
 }
 use Rattle.worksheet.proofs.Witnesses.{appends}
 use Rattle.builder.specs.Called.{Called as Structured, worksheet_in as structure_in}
-use Rattle.prover.specs.Book.{Book, book, lacks, short, sheet_of, worksheet_in, of_constants}
+use Rattle.prover.specs.Book.{Book, book, lacks, short, sheet_of, worksheet_in}
 use Rattle.prover.specs.Called.{Called}
 use Rattle.prover.specs.Filled.{Filled}
 use Rattle.prover.proofs.Entries.{works_by}

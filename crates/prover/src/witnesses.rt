@@ -16,11 +16,7 @@ use worksheet::Var;
 pub trait Witnesses {
     ghost builder: { Self → Builder };
 
-    fn witness<E: Ring>(
-        &mut self,
-        ledger: &mut Ledger<'_, E>,
-        value: E,
-    ) -> Result<Var<E>, Refusal>
+    fn witness<E: Ring>(&mut self, ledger: &mut Ledger<'_, E>, value: E) -> Result<Var<E>, Refusal>
         ensures { Made E.algebra E.means (builder self.old) (builder self.new) ledger.old ledger.new (witness_call (E.means value)) (outcome (λ v. Some (var_means E.means v)) result) };
 
     // A witness that is one or zero.
@@ -42,11 +38,7 @@ pub trait Witnesses {
         ensures { (F : FieldOf E.algebra) × Made E.algebra E.means (builder self.old) (builder self.new) ledger.old ledger.new (divide_call F (var_means E.means a) (var_means E.means b)) (outcome (λ v. Some (var_means E.means v)) result) };
 
     // The inverse of a variable: a native of a native, else a witness that times the variable is asserted equal to one.
-    fn invert<E: Field>(
-        &mut self,
-        ledger: &mut Ledger<'_, E>,
-        a: Var<E>,
-    ) -> Result<Var<E>, Refusal>
+    fn invert<E: Field>(&mut self, ledger: &mut Ledger<'_, E>, a: Var<E>) -> Result<Var<E>, Refusal>
         ensures { (F : FieldOf E.algebra) × Made E.algebra E.means (builder self.old) (builder self.new) ledger.old ledger.new (invert_call F (var_means E.means a)) (outcome (λ v. Some (var_means E.means v)) result) };
 }
 

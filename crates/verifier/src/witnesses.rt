@@ -35,11 +35,7 @@ pub trait Witnesses {
         ensures { Divided E.algebra (var_means E.means a) (var_means E.means b) (λ F. Made E.algebra E.means false (builder self.old) (builder self.new) tables.old tables.new (divide_call F (var_means E.means a) (var_means E.means b)) (outcome (λ v. Some (var_means E.means v)) result)) };
 
     // A native inverse, or a witness that times a is asserted to be one.
-    fn invert<E: Field>(
-        &mut self,
-        tables: &mut Tables<'_, E>,
-        a: Var<E>,
-    ) -> Result<Var<E>, Refusal>
+    fn invert<E: Field>(&mut self, tables: &mut Tables<'_, E>, a: Var<E>) -> Result<Var<E>, Refusal>
         ensures { Inverted E.algebra (var_means E.means a) (λ F. Made E.algebra E.means false (builder self.old) (builder self.new) tables.old tables.new (invert_call F (var_means E.means a)) (outcome (λ v. Some (var_means E.means v)) result)) };
 }
 

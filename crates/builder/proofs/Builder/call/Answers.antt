@@ -46,8 +46,8 @@ returns g c =
     let admitted = c.in_ok-admit.ensures in
     record {
       called = accepted_request r.algebra r.means a.self.now a.lacking a.tables.now a.request _ _ _ _ c.lacks-short.ensures c.knows_operands-known.ensures cost clash admitted
-      _ _ c.make-answer.result refl refl refl refl c.make-answer.ensures _ _ refl refl refl refl refl (search rules) (search rules) (search rules);
+          _ _ c.make-answer.result refl refl refl refl c.make-answer.ensures _ _ refl refl refl refl refl (search rules) (search rules) (search rules);
       stays = moved r.algebra r.means a.self.now a.lacking a.tables.now a.request _ _ _ _ c.lacks-short.ensures c.knows_operands-known.ensures cost clash admitted
-      _ _ c.make-answer.result refl refl refl refl c.make-answer.ensures _ _ refl refl refl refl refl (search rules) (search rules) (search rules);
+          _ _ c.make-answer.result refl refl refl refl c.make-answer.ensures _ _ refl refl refl refl refl (search rules) (search rules) (search rules);
       long = is_long r.algebra r.means a.self.now a.lacking a.tables.now a.request _ _ _ _ c.lacks-short.ensures c.knows_operands-known.ensures cost clash admitted;
     }
