@@ -3,11 +3,13 @@
 
 #[cfg(test)]
 mod tests {
+    use builder::{Open, Tables};
+    use prover::{Ledger, Prover, Values, Witnesses as _};
     use refusal::Refusal;
     use residue::Residue;
     use ring::Ring;
     use std::test::Fail;
-    use verifier::Open;
+    use verifier::{Verifier, Witnesses as _};
     use worksheet::{CircuitIdx, CircuitNode, Counts, Var};
 
     const C0: CircuitIdx = CircuitIdx::Constant(0);
@@ -39,71 +41,71 @@ mod tests {
         Var::Circuit(i)
     }
 
+    fn ledger<'a>(
+        constants: &'a mut [Residue],
+        nodes: &'a mut [CircuitNode],
+        assertions: &'a mut [(CircuitIdx, CircuitIdx)],
+        values: &'a mut [Residue],
+        worked: &'a mut [Residue],
+    ) -> Ledger<'a, Residue> {
+        Ledger {
+            tables: Tables {
+                constants,
+                nodes,
+                assertions,
+            },
+            values,
+            worked,
+        }
+    }
+
     #[test]
     fn a_capacity_has_a_limit(rt: HostRuntime) {
         assert_eq!(rt;
-            number(Open::new(counts(65_536, 65_536, 65_536, 65_536))),
+            number(Open::<Verifier>::new(counts(65_536, 65_536, 65_536, 65_536))),
             0
         );
-        assert_eq!(rt; number(Open::new(counts(65_537, 0, 0, 0))), 1);
-        assert_eq!(rt; number(Open::new(counts(0, 65_537, 0, 0))), 1);
-        assert_eq!(rt; number(Open::new(counts(0, 0, 65_537, 0))), 1);
-        assert_eq!(rt; number(Open::new(counts(0, 0, 0, u32::MAX))), 1);
+        assert_eq!(rt; number(Open::<Verifier>::new(counts(65_537, 0, 0, 0))), 1);
+        assert_eq!(rt; number(Open::<Verifier>::new(counts(0, 65_537, 0, 0))), 1);
+        assert_eq!(rt; number(Open::<Verifier>::new(counts(0, 0, 65_537, 0))), 1);
+        assert_eq!(rt; number(Open::<Verifier>::new(counts(0, 0, 0, u32::MAX))), 1);
     }
 
     // Short tables come first, then absent ids, then unequal natives, then the counts in their order.
     #[test]
     fn causes_have_an_order(rt: HostRuntime) -> Result<(), Fail> {
-        let mut open = Open::new(counts(0, 0, 0, 0))?;
+        let mut open = Open::<Verifier>::new(counts(0, 0, 0, 0))?;
         let (mut cs, mut ns, mut qs) = ([Residue::zero(); 0], [BLANK; 0], [(C0, C0); 0]);
+        let mut tables = Tables {
+            constants: &mut cs,
+            nodes: &mut ns,
+            assertions: &mut qs,
+        };
+        assert_eq!(rt; number(open.add(&mut tables, native(1), id(C0))), 3);
         assert_eq!(rt;
-            number(open.add(&mut cs, &mut ns, &mut qs, native(1), id(C0))),
-            3
-        );
-        assert_eq!(rt;
-            number(open.assert_equal(&mut cs, &mut ns, &mut qs, native(3), native(4))),
+            number(open.assert_equal(&mut tables, native(3), native(4))),
             4
         );
         assert_eq!(rt;
-            number(open.assert_equal(&mut cs, &mut ns, &mut qs, native(3), native(3))),
+            number(open.assert_equal(&mut tables, native(3), native(3))),
             0
         );
-        assert_eq!(rt;
-            number(open.constant(&mut cs, &mut ns, &mut qs, Residue::one())),
-            5
-        );
-        assert_eq!(rt; number(open.witness(&mut cs, &mut ns, &mut qs)), 6);
-        let mut open = Open::new(counts(0, 1, 0, 1))?;
-        assert_eq!(rt; number(open.witness(&mut cs, &mut ns, &mut qs)), 2);
-        assert_eq!(rt;
-            number(open.add(&mut cs, &mut ns, &mut qs, id(C0), id(C0))),
-            2
-        );
+        assert_eq!(rt; number(open.constant(&mut tables, Residue::one())), 5);
+        assert_eq!(rt; number(open.witness(&mut tables)), 6);
+        let mut open = Open::<Verifier>::new(counts(0, 1, 0, 1))?;
+        assert_eq!(rt; number(open.witness(&mut tables)), 2);
+        assert_eq!(rt; number(open.add(&mut tables, id(C0), id(C0))), 2);
         let mut one = [(C0, C0)];
-        assert_eq!(rt; number(open.witness(&mut cs, &mut ns, &mut one)), 0);
+        tables.assertions = &mut one;
+        assert_eq!(rt; number(open.witness(&mut tables)), 0);
         let w = id(CircuitIdx::Witness(0));
-        assert_eq!(rt; number(open.add(&mut cs, &mut ns, &mut one, w, w)), 7);
-        assert_eq!(rt;
-            number(open.divide(&mut cs, &mut ns, &mut one, native(1), w)),
-            5
-        );
-        assert_eq!(rt; number(open.divide(&mut cs, &mut ns, &mut one, w, w)), 6);
-        assert_eq!(rt;
-            number(open.boolean_assert(&mut cs, &mut ns, &mut one, w)),
-            7
-        );
-        assert_eq!(rt;
-            number(open.boolean_assert(&mut cs, &mut ns, &mut one, native(2))),
-            4
-        );
-        assert_eq!(rt;
-            number(open.assert_equal(&mut cs, &mut ns, &mut one, w, w)),
-            0
-        );
-        assert_eq!(rt;
-            number(open.assert_equal(&mut cs, &mut ns, &mut one, w, w)),
-            8
-        );
+        assert_eq!(rt; number(open.add(&mut tables, w, w)), 7);
+        assert_eq!(rt; number(open.divide(&mut tables, native(1), w)), 5);
+        assert_eq!(rt; number(open.divide(&mut tables, w, w)), 6);
+        assert_eq!(rt; number(open.boolean_assert(&mut tables, w)), 7);
+        assert_eq!(rt; number(open.boolean_assert(&mut tables, native(2))), 4);
+        assert_eq!(rt; number(open.assert_equal(&mut tables, w, w)), 0);
+        assert_eq!(rt; number(open.assert_equal(&mut tables, w, w)), 8);
         assert!(rt; open.counts() == counts(0, 1, 0, 1));
         Ok(())
     }
@@ -111,13 +113,18 @@ mod tests {
     // A composite call that does not fit leaves everything as it was.
     #[test]
     fn a_refused_call_changes_nothing(rt: HostRuntime) -> Result<(), Fail> {
-        let mut open = Open::new(counts(2, 2, 1, 1))?;
+        let mut open = Open::<Verifier>::new(counts(2, 2, 1, 1))?;
         let mut cs = [Residue::new(7); 2];
         let mut ns = [CircuitNode::Mul(C0, C0); 1];
         let mut qs = [(C0, C0)];
-        let a = open.witness(&mut cs, &mut ns, &mut qs)?;
-        let b = open.witness(&mut cs, &mut ns, &mut qs)?;
-        assert_eq!(rt; number(open.subtract(&mut cs, &mut ns, &mut qs, a, b)), 7);
+        let mut tables = Tables {
+            constants: &mut cs,
+            nodes: &mut ns,
+            assertions: &mut qs,
+        };
+        let a = open.witness(&mut tables)?;
+        let b = open.witness(&mut tables)?;
+        assert_eq!(rt; number(open.subtract(&mut tables, a, b)), 7);
         assert!(rt; open.counts() == counts(0, 2, 0, 0));
         assert_eq!(rt; (cs[0].value(), cs[1].value()), (7, 7));
         assert!(rt; ns[0] == CircuitNode::Mul(C0, C0));
@@ -127,15 +134,20 @@ mod tests {
     // The constant minus one, a product with it, and the sum; the native of a product stands first.
     #[test]
     fn calls_append_in_order(rt: HostRuntime) -> Result<(), Fail> {
-        let mut open = Open::new(counts(3, 2, 3, 1))?;
+        let mut open = Open::<Verifier>::new(counts(3, 2, 3, 1))?;
         let mut cs = [Residue::zero(); 3];
         let mut ns = [BLANK; 3];
         let mut qs = [(C0, C0)];
-        let a = open.witness(&mut cs, &mut ns, &mut qs)?;
-        let b = open.witness(&mut cs, &mut ns, &mut qs)?;
-        let difference = open.subtract(&mut cs, &mut ns, &mut qs, a, b)?;
-        let double = open.multiply(&mut cs, &mut ns, &mut qs, difference, native(2))?;
-        open.assert_equal(&mut cs, &mut ns, &mut qs, double, native(6))?;
+        let mut tables = Tables {
+            constants: &mut cs,
+            nodes: &mut ns,
+            assertions: &mut qs,
+        };
+        let a = open.witness(&mut tables)?;
+        let b = open.witness(&mut tables)?;
+        let difference = open.subtract(&mut tables, a, b)?;
+        let double = open.multiply(&mut tables, difference, native(2))?;
+        open.assert_equal(&mut tables, double, native(6))?;
         assert!(rt; open.counts() == counts(3, 2, 3, 1));
         assert_eq!(rt; (cs[0].value(), cs[1].value(), cs[2].value()), (8190, 2, 6));
         let (w0, w1) = (CircuitIdx::Witness(0), CircuitIdx::Witness(1));
@@ -149,36 +161,21 @@ mod tests {
 
     // (a - b) * 2, asserted to be what is claimed, where a is 5 and b is 2.
     fn double_is(claimed: u32) -> Result<(bool, u16, u8), Refusal> {
-        let mut open = prover::Open::new(counts(3, 2, 3, 1))?;
+        let mut open = Open::<Prover>::new(counts(3, 2, 3, 1))?;
         let mut cs = [Residue::zero(); 3];
         let mut ns = [BLANK; 3];
         let mut qs = [(C0, C0)];
         let (mut vs, mut ws) = ([Residue::zero(); 2], [Residue::zero(); 3]);
+        let mut lent = ledger(&mut cs, &mut ns, &mut qs, &mut vs, &mut ws);
         let five = Residue::new(5);
         let two = Residue::new(2);
-        let a = open.witness(&mut cs, &mut ns, &mut qs, &mut vs, &mut ws, five)?;
-        let b = open.witness(&mut cs, &mut ns, &mut qs, &mut vs, &mut ws, two)?;
-        let difference = open.subtract(&mut cs, &mut ns, &mut qs, &mut vs, &mut ws, a, b)?;
-        let double = open.multiply(
-            &mut cs,
-            &mut ns,
-            &mut qs,
-            &mut vs,
-            &mut ws,
-            difference,
-            native(2),
-        )?;
-        open.assert_equal(
-            &mut cs,
-            &mut ns,
-            &mut qs,
-            &mut vs,
-            &mut ws,
-            double,
-            native(claimed),
-        )?;
+        let a = open.witness(&mut lent, five)?;
+        let b = open.witness(&mut lent, two)?;
+        let difference = open.subtract(&mut lent, a, b)?;
+        let double = open.multiply(&mut lent, difference, native(2))?;
+        open.assert_equal(&mut lent, double, native(claimed))?;
         let sealed = open.seal();
-        let values = sealed.values(&cs, &ns, &qs, &vs, &ws)?;
+        let values = Values::of(&sealed, &cs, &ns, &qs, &vs, &ws)?;
         let last = values.get(CircuitIdx::Node(2))?;
         Ok((
             values.is_satisfied(),
@@ -198,48 +195,43 @@ mod tests {
     // A table of values that is short is refused at a call and at reading.
     #[test]
     fn value_tables_are_long_enough(rt: HostRuntime) -> Result<(), Fail> {
-        let mut open = prover::Open::new(counts(0, 1, 1, 0))?;
+        let mut open = Open::<Prover>::new(counts(0, 1, 1, 0))?;
         let (mut cs, mut ns, mut qs) = ([Residue::zero(); 0], [BLANK], [(C0, C0); 0]);
         let mut one = [Residue::new(7)];
         let mut other = [Residue::new(8)];
         let mut none = [Residue::zero(); 0];
         let x = Residue::one();
-        assert_eq!(rt;
-            number(open.witness(&mut cs, &mut ns, &mut qs, &mut none, &mut other, x)),
-            2
-        );
-        assert_eq!(rt;
-            number(open.witness(&mut cs, &mut ns, &mut qs, &mut one, &mut none, x)),
-            2
-        );
+        let mut lent = ledger(&mut cs, &mut ns, &mut qs, &mut none, &mut other);
+        assert_eq!(rt; number(open.witness(&mut lent, x)), 2);
+        let mut lent = ledger(&mut cs, &mut ns, &mut qs, &mut one, &mut none);
+        assert_eq!(rt; number(open.witness(&mut lent, x)), 2);
         assert!(rt; open.counts() == counts(0, 0, 0, 0));
         assert_eq!(rt; (one[0].value(), other[0].value()), (7, 8));
-        assert_eq!(rt;
-            number(open.witness(&mut cs, &mut ns, &mut qs, &mut one, &mut other, x)),
-            0
-        );
-        assert_eq!(rt;
-            number(open.witness(&mut cs, &mut ns, &mut qs, &mut one, &mut other, x)),
-            6
-        );
+        let mut lent = ledger(&mut cs, &mut ns, &mut qs, &mut one, &mut other);
+        assert_eq!(rt; number(open.witness(&mut lent, x)), 0);
+        assert_eq!(rt; number(open.witness(&mut lent, x)), 6);
         assert_eq!(rt; (one[0].value(), other[0].value()), (1, 8));
         let sealed = open.seal();
         assert!(rt; sealed.counts() == counts(0, 1, 0, 0));
-        assert_eq!(rt; number(sealed.values(&cs, &ns, &qs, &none, &other)), 2);
-        assert_eq!(rt; number(sealed.values(&cs, &ns, &qs, &one, &other)), 0);
+        assert_eq!(rt;
+            number(Values::of(&sealed, &cs, &ns, &qs, &none, &other)),
+            2
+        );
+        assert_eq!(rt; number(Values::of(&sealed, &cs, &ns, &qs, &one, &other)), 0);
         Ok(())
     }
 
     // The verdict on 1 / x, and the value that was found.
     fn inverse_of(x: u32) -> Result<(bool, u16), Refusal> {
-        let mut open = prover::Open::new(counts(1, 2, 1, 1))?;
+        let mut open = Open::<Prover>::new(counts(1, 2, 1, 1))?;
         let (mut cs, mut ns, mut qs) = ([Residue::zero()], [BLANK], [(C0, C0)]);
         let (mut vs, mut ws) = ([Residue::zero(); 2], [Residue::zero()]);
+        let mut lent = ledger(&mut cs, &mut ns, &mut qs, &mut vs, &mut ws);
         let x = Residue::new(x);
-        let a = open.witness(&mut cs, &mut ns, &mut qs, &mut vs, &mut ws, x)?;
-        let _ = open.invert(&mut cs, &mut ns, &mut qs, &mut vs, &mut ws, a)?;
+        let a = open.witness(&mut lent, x)?;
+        let _ = open.invert(&mut lent, a)?;
         let sealed = open.seal();
-        let values = sealed.values(&cs, &ns, &qs, &vs, &ws)?;
+        let values = Values::of(&sealed, &cs, &ns, &qs, &vs, &ws)?;
         let inverse = values.get(CircuitIdx::Witness(1))?;
         Ok((values.is_satisfied(), inverse.value()))
     }
@@ -254,22 +246,14 @@ mod tests {
 
     // The element that a bit selects of 3 and 4.
     fn selected_by(bit: bool) -> Result<(bool, u16), Refusal> {
-        let mut open = prover::Open::new(counts(3, 1, 4, 1))?;
+        let mut open = Open::<Prover>::new(counts(3, 1, 4, 1))?;
         let (mut cs, mut ns, mut qs) = ([Residue::zero(); 3], [BLANK; 4], [(C0, C0)]);
         let (mut vs, mut ws) = ([Residue::zero()], [Residue::zero(); 4]);
-        let b = open.boolean_witness(&mut cs, &mut ns, &mut qs, &mut vs, &mut ws, bit)?;
-        let _ = open.select(
-            &mut cs,
-            &mut ns,
-            &mut qs,
-            &mut vs,
-            &mut ws,
-            b,
-            native(3),
-            native(4),
-        )?;
+        let mut lent = ledger(&mut cs, &mut ns, &mut qs, &mut vs, &mut ws);
+        let b = open.boolean_witness(&mut lent, bit)?;
+        let _ = open.select(&mut lent, b, native(3), native(4))?;
         let sealed = open.seal();
-        let values = sealed.values(&cs, &ns, &qs, &vs, &ws)?;
+        let values = Values::of(&sealed, &cs, &ns, &qs, &vs, &ws)?;
         let selected = values.get(CircuitIdx::Node(2))?;
         Ok((values.is_satisfied(), selected.value()))
     }
