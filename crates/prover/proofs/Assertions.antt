@@ -1,6 +1,5 @@
 -- The assertions hold if each of those that are counted does.
-use Rattle.std.proofs.Common.{◌≡◌, ℕ, ◌<◌, min, List, map, length, get_or, take, sym, ap, ◌∙◌, arith, length-take}
-use Rattle.std.proofs.lemmas.List.{get_or-take}
+use Rattle.std.proofs.Common.{◌≡◌, ℕ, ◌<◌, ◌≤◌, List, map, length, get_or, take, sym, ◌∙◌, arith}
 use Rattle.ring.specs.Algebra.{RingOn}
 use Rattle.worksheet.specs.declared.CircuitIdx.{CircuitIdx}
 use Rattle.worksheet.specs.declared.CircuitIdx.TheVariants.{Constant}
@@ -31,15 +30,11 @@ module _ {E M : Type 0} (R : RingOn M) (means : E → M) (n : Counts) (t : Book 
   same : (a : CircuitIdx) → found a ≡ val a
   same a = look_by R S (map means (take n.witnesses t.values)) (map means (take n.nodes t.worked)) a
 
-  pub all_hold : (k : ℕ) → k ≡ min n.assertions (length t.assertions) → HoldBelow t.assertions found k → Holds S val
-  all_hold k is h j lt =
-      let there : j < n.assertions = omega (arith, length-take n.assertions t.assertions) in
-      let below : j < k = omega (arith, length-take n.assertions t.assertions) in
-      let e = get_or-take n.assertions t.assertions j (Constant 0, Constant 0) there in
-      ap (λ (q : CircuitIdx × CircuitIdx). val q.0) e ∙ sym (same (at t.assertions j).0) ∙ h j below ∙ same (at t.assertions j).1 ∙ sym (ap (λ (q : CircuitIdx × CircuitIdx). val q.1) e)
+  abbrev asserted : List (CircuitIdx × CircuitIdx)
+  asserted = take n.assertions t.assertions
 
-  pub each_holds : (j : ℕ) → j < min n.assertions (length t.assertions) → Holds S val → found (at t.assertions j).0 ≡ found (at t.assertions j).1
-  each_holds j lt h =
-      let there : j < n.assertions = omega arith in
-      let e = get_or-take n.assertions t.assertions j (Constant 0, Constant 0) there in
-      same (at t.assertions j).0 ∙ sym (ap (λ (q : CircuitIdx × CircuitIdx). val q.0) e) ∙ h j (omega (arith, length-take n.assertions t.assertions)) ∙ ap (λ (q : CircuitIdx × CircuitIdx). val q.1) e ∙ sym (same (at t.assertions j).1)
+  pub all_hold : (k : ℕ) → length asserted ≤ k → HoldBelow asserted found k → Holds S val
+  all_hold k long h j lt = sym (same (at asserted j).0) ∙ h j (omega arith) ∙ same (at asserted j).1
+
+  pub each_holds : (j : ℕ) → j < length asserted → Holds S val → found (at asserted j).0 ≡ found (at asserted j).1
+  each_holds j lt h = same (at asserted j).0 ∙ h j lt ∙ sym (same (at asserted j).1)
