@@ -1,11 +1,11 @@
 // Variables that are zero or one, and the builder calls on them, for every role.
-ghost use Rattle.std.specs.Prelude.{◌≡◌, Some, None};
+ghost use Rattle.std.specs.Prelude.{◌≡◌, Some, None, is_ok};
 ghost use Rattle.refusal.specs.Outcome.{outcome};
 ghost use Rattle.worksheet.specs.declared.Var.TheVariants.{Native};
 ghost use Rattle.worksheet.specs.Calls.{var_means};
 ghost use Rattle.worksheet.specs.Runs.{bit, assert_equal as assert_call, boolean_assert as boolean_assert_call, boolean_not as boolean_not_call, boolean_and as boolean_and_call, boolean_or as boolean_or_call, select as select_call, Settled, native_square};
 ghost use Rattle.builder.specs.Booleans.{request_of};
-ghost use Rattle.builder.specs.Requests.{Of, Compared, shown};
+ghost use Rattle.builder.specs.Requests.{Of, OfStructure, Compared, shown};
 
 use super::{BoolRequest, BoolVar, Open, Request, Role};
 use refusal::Refusal;
@@ -59,7 +59,9 @@ impl<R> Open<R> {
     where
         R: Role<E, T>,
         ensures called { Of E.algebra E.means (R.values E.Member E.algebra E.means self.old.builder tables.old) (R.Hands E.Member (E.means fresh)) (request_of request) (λ c. R.Does E.Member E.algebra E.means self.old.builder self.new.builder tables.old tables.new c (outcome (λ v. shown E.algebra E.means (request_of request) (var_means E.means v.var)) result)) }
+        ensures shaped { OfStructure E.algebra E.means (request_of request) (λ c. R.Shapes E.Member E.algebra E.means self.old.builder self.new.builder tables.old tables.new c (outcome (λ v. shown E.algebra E.means (request_of request) (var_means E.means v.var)) result)) }
         ensures stays { R.Stays self.old.builder self.new.builder tables.old tables.new }
+        ensures written { R.Writes E.Member E.algebra E.means self.old.builder self.new.builder tables.old tables.new fresh (is_ok result) }
     {
         let var = self.call(tables, request_of(request), fresh)?;
         Ok(BoolVar { var })

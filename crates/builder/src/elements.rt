@@ -1,11 +1,11 @@
 // The builder calls on elements and ids, for every role.
-ghost use Rattle.std.specs.Prelude.{◌≡◌, if◌then◌else◌, Some, None, Ok, Err};
+ghost use Rattle.std.specs.Prelude.{◌≡◌, if◌then◌else◌, Some, None, Ok, Err, is_ok};
 ghost use Rattle.refusal.specs.declared.Refusal.TheVariants.{ShortTable};
 ghost use Rattle.refusal.specs.Outcome.{outcome};
 ghost use Rattle.worksheet.specs.declared.Var.TheVariants.{Native};
 ghost use Rattle.worksheet.specs.Calls.{var_means};
 ghost use Rattle.worksheet.specs.Runs.{constant as constant_call, add as add_call, multiply as multiply_call, negate as negate_call, subtract as subtract_call, assert_equal as assert_call, Settled};
-ghost use Rattle.builder.specs.Requests.{Of, Compared, shown};
+ghost use Rattle.builder.specs.Requests.{Of, OfStructure, Compared, shown};
 
 use super::{Open, Request, Role};
 use refusal::Refusal;
@@ -23,7 +23,9 @@ impl<R> Open<R> {
     where
         R: Role<E, T>,
         ensures called { Of E.algebra E.means (R.values E.Member E.algebra E.means self.old.builder tables.old) (R.Hands E.Member (E.means fresh)) request (λ c. R.Does E.Member E.algebra E.means self.old.builder self.new.builder tables.old tables.new c (outcome (λ v. shown E.algebra E.means request (var_means E.means v)) result)) }
+        ensures shaped { OfStructure E.algebra E.means request (λ c. R.Shapes E.Member E.algebra E.means self.old.builder self.new.builder tables.old tables.new c (outcome (λ v. shown E.algebra E.means request (var_means E.means v)) result)) }
         ensures stays { R.Stays self.old.builder self.new.builder tables.old tables.new }
+        ensures written { R.Writes E.Member E.algebra E.means self.old.builder self.new.builder tables.old tables.new fresh (is_ok result) }
     {
         R::call(&mut self.builder, tables, &request, fresh)
     }

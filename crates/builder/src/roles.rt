@@ -1,13 +1,13 @@
 // What provers and verifiers do in ways of their own.
-ghost use Rattle.std.specs.Prelude.{◌≡◌, Bool};
+ghost use Rattle.std.specs.Prelude.{◌≡◌, Bool, is_ok};
 ghost use Rattle.refusal.specs.Outcome.{outcome};
 ghost use Rattle.ring.specs.Algebra.{RingOn};
 ghost use Rattle.worksheet.specs.declared.CircuitIdx.{CircuitIdx as Id};
 ghost use Rattle.worksheet.specs.declared.Counts.{Counts as Sizes};
 ghost use Rattle.worksheet.specs.Calls.{var_means};
-ghost use Rattle.worksheet.specs.Runs.{prover, Call, Reply};
+ghost use Rattle.worksheet.specs.Runs.{prover, verifier, Call, Reply};
 ghost use Rattle.builder.specs.declared.Builder.{Builder as Counted};
-ghost use Rattle.builder.specs.Requests.{Of, shown};
+ghost use Rattle.builder.specs.Requests.{Of, OfStructure, shown};
 
 use super::{Builder, Request};
 use refusal::Refusal;
@@ -28,8 +28,14 @@ pub trait Role<E: Ring, T> {
     // What a call does to counts and tables, and answers.
     ghost Does: { (M : Type 0) (R : RingOn M) → (E → M) → Counted → Counted → T → T → Call R prover → Reply M → Type 0 };
 
+    // What a call does to the structure.
+    ghost Shapes: { (M : Type 0) (R : RingOn M) → (E → M) → Counted → Counted → T → T → Call R verifier → Reply M → Type 0 };
+
     // What every call keeps.
     ghost Stays: { Counted → Counted → T → T → Type 0 };
+
+    // What a call writes beside the structure, handed an element, where it is accepted and where not.
+    ghost Writes: { (M : Type 0) (R : RingOn M) → (E → M) → Counted → Counted → T → T → E → Bool → Type 0 };
 
     fn is_short(capacity: Counts, tables: &T) -> bool
         ensures { result ≡ short capacity tables.now };
@@ -42,5 +48,7 @@ pub trait Role<E: Ring, T> {
         fresh: E,
     ) -> Result<Var<E>, Refusal>
         ensures called { Of E.algebra E.means (values E.Member E.algebra E.means builder.old tables.old) (Hands E.Member (E.means fresh)) request.now (λ c. Does E.Member E.algebra E.means builder.old builder.new tables.old tables.new c (outcome (λ v. shown E.algebra E.means request.now (var_means E.means v)) result)) }
-        ensures stays { Stays builder.old builder.new tables.old tables.new };
+        ensures shaped { OfStructure E.algebra E.means request.now (λ c. Shapes E.Member E.algebra E.means builder.old builder.new tables.old tables.new c (outcome (λ v. shown E.algebra E.means request.now (var_means E.means v)) result)) }
+        ensures stays { Stays builder.old builder.new tables.old tables.new }
+        ensures written { Writes E.Member E.algebra E.means builder.old builder.new tables.old tables.new fresh (is_ok result) };
 }

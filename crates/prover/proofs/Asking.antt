@@ -16,12 +16,15 @@ use Rattle.builder.specs.Called.{Called as HalfCalled, Stays as StructureStays, 
 use Rattle.builder.specs.Requests.{Of, OfStructure}
 use Rattle.prover.specs.declared.Ledger.{Ledger}
 use Rattle.prover.specs.Book.{book, held, lacks, worksheet_in}
-use Rattle.prover.specs.Called.{Called, Stays, Made}
+use Rattle.prover.specs.Called.{Called, Shaped, Stays, Made}
 use Rattle.prover.specs.Filled.{Filled}
 use Rattle.prover.proofs.Calling.{Handed, refused_so, accepted_so}
 
 pair : {A : Type 0} {x y u v : A} → x ≡ y → u ≡ v → ◌≡◌ {A = A × A} (y, v) (x, u)
 pair {A} {x} {y} {u} {v} p q = ap (λ (a : A). (a, v)) (sym p) ∙ ap (λ (b : A). (x, b)) (sym q)
+
+at_counts : {b n a n' : Counts} (P : Counts → Counts → Type 0) → b ≡ n → a ≡ n' → P b a → P n n'
+at_counts {b} {n} {a} {n'} P p q h = subst (λ m. P m n') p (subst (P b) q h)
 
 module _ {E M : Type 0} (R : RingOn M) (means : E → M) (val : CircuitIdx → M) (x : M) where
   one : {y : M} → x ≡ y → ◌≡◌ {A = List M} (y ∷ []) (x ∷ [])
@@ -86,5 +89,9 @@ module _ {E M : Type 0} (R : RingOn M) (means : E → M) (was is : Builder) (t t
   pub accepted_request : (m : Tables E) (o : Option (Var M)) (b a : Counts) → t'.tables ≡ m → b ≡ was.counts → a ≡ is.counts → StructureStays was is t.tables m → t'.values.ghost_name ≡ t.values.ghost_name → t'.worked.ghost_name ≡ t.worked.ghost_name → Filled R means b a x (book m.constants.now m.nodes.now m.assertions.now t.values.now t.worked.now) (held t') → OfStructure R means q (λ c. Structured R means lacking was is t.tables m c (accepted o)) → Of R means val (λ y. means x ≡ y) q (λ c. Made R means was is t t' c (accepted o))
   accepted_request m o b a same is_b is_a stays vs ws filled made =
       let old = book m.constants.now m.nodes.now m.assertions.now t.values.now t.worked.now in
-      let filled' = subst (λ (n : Counts). Filled R means n is.counts x old (held t')) is_b (subst (λ (n : Counts). Filled R means b n x old (held t')) is_a filled) in
+      let filled' = at_counts (λ n n'. Filled R means n n' x old (held t')) is_b is_a filled in
       accepted_then o vs ws (subst (λ (m : Tables E). Then m o) (sym same) (stays, filled', made))
+
+  pub shaped_request : (m : Tables E) (p : Reply M) → t'.tables ≡ m → OfStructure R means q (λ c. Structured R means lacking was is t.tables m c p) → OfStructure R means q (λ c. Shaped R means was is t t' c p)
+  shaped_request m p same made =
+      subst (λ (b : Bool). OfStructure R means q (λ c. Structured R means b was is t.tables t'.tables c p)) is_lacking (subst (λ (s : Tables E). OfStructure R means q (λ c. Structured R means lacking was is t.tables s c p)) (sym same) made)

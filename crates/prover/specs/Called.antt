@@ -1,14 +1,15 @@
 -- What a call on a prover's worksheet does: the step of its definition, in the tables that it is handed.
-use Rattle.std.specs.Prelude.{◌≡◌, ℕ, true, false, drop}
+use Rattle.std.specs.Prelude.{◌≡◌, ℕ, Bool, true, false, drop}
 use Rattle.refusal.specs.Outcome.{refused}
 use Rattle.ring.specs.Algebra.{RingOn}
 use Rattle.worksheet.specs.declared.Counts.{Counts}
 use Rattle.worksheet.specs.Law.{Stepped}
-use Rattle.worksheet.specs.Runs.{prover, Call, Reply}
+use Rattle.worksheet.specs.Runs.{prover, verifier, Call, Reply}
 use Rattle.builder.specs.declared.Builder.{Builder}
-use Rattle.builder.specs.Called.{Stays as StructureStays}
+use Rattle.builder.specs.Called.{Stays as StructureStays, Made as Structure}
 use Rattle.prover.specs.declared.Ledger.{Ledger}
-use Rattle.prover.specs.Book.{Book, held, short, worksheet_in}
+use Rattle.prover.specs.Book.{Book, book, held, lacks, short, worksheet_in}
+use Rattle.prover.specs.Filled.{Filled}
 
 -- counts and tables before and after a call, n and n', t and t'
 pub record Called {E M : Type 0} (R : RingOn M) (means : E → M) (cap n n' : Counts) (t t' : Book E) (c : Call R prover) (p : Reply M) : Type 0 where
@@ -35,3 +36,12 @@ pub record Stays {E : Type 0} (was is : Builder) (t t' : Ledger E) : Type 0 wher
 pub record Made {E M : Type 0} (R : RingOn M) (means : E → M) (was is : Builder) (t t' : Ledger E) (c : Call R prover) (p : Reply M) : Type 0 where
   pub called : Called R means was.capacity was.counts is.counts (held t) (held t') c p
   pub stays : Stays was is t t'
+
+-- what it does to the structure: what a verifier's call does, refused where a table of values is short
+abbrev pub Shaped : {E M : Type 0} (R : RingOn M) (means : E → M) (was is : Builder) (t t' : Ledger E) (c : Call R verifier) (p : Reply M) → Type 0
+Shaped R means was is t t' c p = Structure R means (lacks was.capacity (held t)) was is t.tables t'.tables c p
+
+-- and to the values, where a new witness is handed x: the new entries' are filled in where it is accepted, and no other
+pub record Written {E M : Type 0} (R : RingOn M) (means : E → M) (was is : Builder) (t t' : Ledger E) (x : E) (ok : Bool) : Type 0 where
+  pub filled : ok ≡ true → Filled R means was.counts is.counts x (book t'.tables.constants.now t'.tables.nodes.now t'.tables.assertions.now t.values.now t.worked.now) (held t')
+  pub unwritten : ok ≡ false → (t'.values.now ≡ t.values.now) × (t'.worked.now ≡ t.worked.now)

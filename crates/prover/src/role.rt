@@ -2,7 +2,7 @@
 ghost use Rattle.std.specs.Prelude.{◌≡◌};
 ghost use Rattle.worksheet.specs.Runs.{values_of};
 ghost use Rattle.prover.specs.Book.{held, short, worksheet_in};
-ghost use Rattle.prover.specs.Called.{Stays, Made};
+ghost use Rattle.prover.specs.Called.{Shaped, Stays, Made, Written};
 
 use super::{Ledger, Prover};
 use builder::{Builder, Request, Role};
@@ -19,7 +19,11 @@ impl<'a, E: Ring> Role<E, Ledger<'a, E>> for Prover {
 
     ghost Does = { λ M R means was is t t' c p. Made R means was is t t' c p };
 
+    ghost Shapes = { λ M R means was is t t' c p. Shaped R means was is t t' c p };
+
     ghost Stays = { λ was is t t'. Stays was is t t' };
+
+    ghost Writes = { λ M R means was is t t' x ok. Written R means was is t t' x ok };
 
     fn is_short(capacity: Counts, ledger: &Ledger<'a, E>) -> bool {
         ledger.lacks(capacity) || ledger.tables.are_short(capacity)

@@ -18,7 +18,11 @@ impl<'a, E: Ring> Role<E, Tables<'a, E>> for Verifier {
 
     ghost Does = { λ M R means was is t t' c p. Made R means false was is t t' (erase c) p };
 
+    ghost Shapes = { λ M R means was is t t' c p. Made R means false was is t t' c p };
+
     ghost Stays = { λ was is t t'. Stays was is t t' };
+
+    ghost Writes = { λ M R means was is t t' x ok. Unit {0} };
 
     fn is_short(capacity: Counts, tables: &Tables<'a, E>) -> bool {
         tables.are_short(capacity)
