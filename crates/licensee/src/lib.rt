@@ -32,6 +32,7 @@ impl Hour {
     }
 }
 
+#[tactic(auto, using(ring::proofs::Modular::classes))]
 impl Ring for Hour {
     ghost Member = { Class 12 };
 

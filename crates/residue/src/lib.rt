@@ -37,6 +37,7 @@ impl Residue {
     }
 }
 
+#[tactic(auto, using(ring::proofs::Modular::classes))]
 impl Ring for Residue {
     ghost Member = { Class 8191 };
 
@@ -80,6 +81,7 @@ impl Field for Residue {
 }
 
 // The entry of a table of inverses at the place of `of`.
+#[tactic(auto, using(ring::proofs::Inverses::entry_below))]
 fn look_up(table: &[u16; 8191], of: Residue) -> Residue
     requires { T (inverts 8191 table.now) }
     ensures { (F : FieldOf (modular 8191 (lit< tt))) × (class_of 8191 result.value ≡ F.inverse (class_of 8191 of.value)) }

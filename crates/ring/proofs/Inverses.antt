@@ -1,12 +1,6 @@
 -- A table that passes the test makes the ring modulo n a field.
-use mathlib.Core.Path.{◌≡◌, sym, ap, subst, ◌∙◌}
-use mathlib.Core.Bool.{Bool, true, false, ◌&&◌}
-use mathlib.Core.List.{List, [], ◌∷◌}
-use Prim.Native.Nat.{ℕ, zero, suc, min, ◌+◌, ◌*◌, ◌%◌, ◌<◌}
-use native.Mathlib.Nat.{add-zero, zero-add, add-suc, suc-add, mod-eq_of_lt, mod-lt, zero-mod}
-use native.Mathlib.Omega.{arith}
-use lib.Dec.{T, ltb, ltb→lt, eqb, eqb→eq}
-use lib.ListN.{get_or}
+use Rattle.std.proofs.Common.{◌≡◌, ℕ, zero, suc, min, ◌+◌, ◌*◌, ◌%◌, ◌<◌, Bool, true, false, ◌&&◌, T, ltb, eqb, List, [], ◌∷◌, get_or, sym, ap, subst, ◌∙◌, add-zero, zero-add, add-suc, suc-add, mod-eq_of_lt, mod-lt, ltb→lt, eqb→eq, arith}
+use Rattle.std.proofs.Math.Nat.{zero-mod}
 use Rattle.ring.specs.Algebra.{FieldOf}
 use Rattle.ring.specs.Inverses.{right, right_from, inverts}
 use Rattle.ring.specs.Modular.{class_of, same_class, mul_mod_mod, modular}

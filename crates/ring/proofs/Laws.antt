@@ -1,5 +1,5 @@
 -- What follows from the laws of a commutative ring.
-use mathlib.Core.Path.{◌≡◌, sym, ap, ◌∙◌}
+use Rattle.std.proofs.Common.{◌≡◌, sym, ap, ◌∙◌}
 use Rattle.ring.specs.Algebra.{RingOn}
 
 module _ {M : Type 0} (R : RingOn M) where
@@ -60,9 +60,6 @@ module _ {M : Type 0} (R : RingOn M) where
   pub nought_times : (x : M) → R.times R.nought x ≡ R.nought
   nought_times x = R.times_comm R.nought x ∙ times_nought x
 
-  pub unit_times : (x : M) → R.times R.unit x ≡ x
-  unit_times x = R.times_comm R.unit x ∙ R.times_unit x
-
   pub plus_times : (x y z : M) → R.times (R.plus x y) z ≡ R.plus (R.times x z) (R.times y z)
   plus_times x y z =
       let p = R.times_comm (R.plus x y) z in
@@ -75,6 +72,3 @@ module _ {M : Type 0} (R : RingOn M) where
   minus_times x y =
       nought_sum_moves (R.times (R.minus x) y) (R.times x y)
       (sym (plus_times (R.minus x) x y) ∙ ap (λ (w : M). R.times w y) (minus_plus x) ∙ nought_times y)
-
-  pub times_minus : (x y : M) → R.times x (R.minus y) ≡ R.minus (R.times x y)
-  times_minus x y = R.times_comm x (R.minus y) ∙ minus_times y x ∙ ap R.minus (R.times_comm y x)

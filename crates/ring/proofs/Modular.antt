@@ -1,18 +1,13 @@
 -- What code that counts modulo n computes, as classes modulo n.
-use mathlib.Core.Path.{◌≡◌, refl, sym, ap, ◌∙◌}
-use mathlib.Core.Bool.{Bool, true}
-use Prim.Native.Nat.{ℕ, ◌+◌, ◌*◌, ◌%◌, ◌<◌}
-use native.Mathlib.Nat.{add-mod, mod-eq_of_lt, zero-mod}
+use Rattle.std.proofs.Common.{◌≡◌, ℕ, ◌+◌, ◌*◌, ◌%◌, ◌<◌, refl, sym, ap, ◌∙◌, mod-eq_of_lt}
+use Rattle.std.proofs.Math.Nat.{add-mod, zero-mod}
 use Rattle.ring.specs.Modular.{Class, class_of, class_plus, class_minus, class_times, same_class, mod_mul_mod, mul_mod_mod, modular}
 use Rattle.ring.proofs.Laws.{nought_sum_moves, plus_moves}
 
 module _ (n : ℕ) where
-  -- a test of two values below n is a test of their classes
-  pub equal : (b : Bool) (x y : ℕ) → x < n → y < n → (b ≡ true → x ≡ y) × (x ≡ y → b ≡ true) → record { yes : b ≡ true → class_of n x ≡ class_of n y; no : class_of n x ≡ class_of n y → b ≡ true }
-  equal b x y below_x below_y same = record {
-    yes = λ e. ap (class_of n) (same.0 e);
-    no = λ e. same.1 (sym (mod-eq_of_lt below_x) ∙ ap (λ (a : Class n). a.value) e ∙ mod-eq_of_lt below_y);
-  }
+  -- values below n are equal where their classes are
+  pub equal : (x y : ℕ) → x < n → y < n → class_of n x ≡ class_of n y → x ≡ y
+  equal x y below_x below_y e = sym (mod-eq_of_lt below_x) ∙ ap (λ (a : Class n). a.value) e ∙ mod-eq_of_lt below_y
 
   pub sum : (r x y : ℕ) → r % n ≡ (x + y) % n → class_of n r ≡ class_plus n (class_of n x) (class_of n y)
   sum r x y e = same_class _ _ (e ∙ add-mod x y n)
@@ -29,3 +24,6 @@ module _ (n : ℕ) where
     pub difference : (r x y : ℕ) → (r + y) % n ≡ x % n → class_of n r ≡ class_plus n (class_of n x) (class_minus n (class_of n y))
     difference r x y e =
         plus_moves (modular n big) (class_of n r) (class_of n y) (class_of n x) (sym (sum x r y (sym e)))
+
+-- for an impl of Ring whose members are classes modulo n, as #[tactic(auto, using(ring::proofs::Modular::classes))]
+pub ruleset classes = (equal, sum, product, opposite, difference)

@@ -26,6 +26,7 @@ impl Word {
     }
 }
 
+#[tactic(auto, using(ring::proofs::Modular::classes))]
 impl Ring for Word {
     ghost Member = { Class (2 ^ 64) };
 

@@ -1,9 +1,0 @@
-use Rattle.std.proofs.Common.{◌^◌, arith}
-use Rattle.std.specs.Cmp.{unsigned_Decides}
-use Rattle.ring.proofs.Modular.{equal}
-use Rattle.word.proofs.WordRing.equal.Goals as goal
-
-pub returns : goal.returns
-returns c =
-    rw c.eq.ensures
-    (equal (2 ^ 64) _ c.args.self.value c.args.other.value (omega arith) (omega arith) (unsigned_Decides c.args.self.value c.args.other.value))
