@@ -1,7 +1,7 @@
 // The field of the residues modulo the prime 8,191.
 #![tactic(auto)]
 
-ghost use Rattle.std.specs.Prelude.{◌≡◌, ◌%◌, ◌<◌, T};
+ghost use Rattle.std.specs.Prelude.{◌≡◌, ◌%◌, ◌<◌, T, Some, decimal};
 ghost use Rattle.std.proofs.Common.{lit<};
 ghost use Rattle.ring.specs.Algebra.{FieldOf};
 ghost use Rattle.ring.specs.Inverses.{inverts};
@@ -9,6 +9,7 @@ ghost use Rattle.ring.specs.Modular.{Class, class_of, modular};
 
 use inverses::INVERSES;
 use ring::{Field, Ring};
+use std::fmt;
 
 mod inverses;
 
@@ -88,6 +89,14 @@ fn look_up(table: &[u16; 8191], of: Residue) -> Residue
 {
     Residue {
         value: table[of.value as usize],
+    }
+}
+
+impl fmt::Display for Residue {
+    ghost output = { λ x. Some (decimal x.value) };
+
+    fn fmt<W: fmt::Write>(&self, f: &mut fmt::Formatter<W>) -> fmt::Result {
+        write!(f, "{}", self.value)
     }
 }
 
