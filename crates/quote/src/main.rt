@@ -68,12 +68,7 @@ fn show_rows(rt: &impl Print, rows: &SparseMatrix<'_, Residue>) -> io::Result<()
         rows.width()
     )?;
     for cell in rows.cells() {
-        println!(rt;
-            "    ({}, {}) {}",
-            cell.row,
-            cell.column,
-            cell.weight.value()
-        )?;
+        println!(rt; "    ({}, {}) {}", cell.row, cell.column, cell.weight)?;
     }
     Ok(())
 }
@@ -81,7 +76,7 @@ fn show_rows(rt: &impl Print, rows: &SparseMatrix<'_, Residue>) -> io::Result<()
 fn show_list(rt: &impl Print, name: &str, list: &[Residue]) -> io::Result<()> {
     print!(rt; "    {name}")?;
     for x in list {
-        print!(rt; " {}", x.value())?;
+        print!(rt; " {x}")?;
     }
     println!(rt; "")
 }

@@ -13,12 +13,12 @@ fn show_values(rt: &impl Print, values: Values<'_, Residue>, counts: Counts) -> 
     print!(rt; "  values: witnesses")?;
     for w in 0..counts.witnesses {
         let x = values.get(CircuitIdx::Witness(w))?;
-        print!(rt; " {}", x.value())?;
+        print!(rt; " {x}")?;
     }
     print!(rt; ", nodes")?;
     for n in 0..counts.nodes {
         let x = values.get(CircuitIdx::Node(n))?;
-        print!(rt; " {}", x.value())?;
+        print!(rt; " {x}")?;
     }
     println!(rt; "")?;
     let verdict = values.is_satisfied();

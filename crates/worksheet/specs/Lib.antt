@@ -2,3 +2,4 @@ pub mod Sheet
 pub mod Calls
 pub mod Runs
 pub mod Law
+pub mod Shown
