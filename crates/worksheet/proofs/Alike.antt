@@ -1,80 +1,15 @@
 -- Runs of the same calls are alike: the same answers, refusals and worksheets, whoever makes them.
-use Rattle.std.proofs.Common.{◌≡◌, ℕ, Bool, true, false, not, ltb, List, [], ◌∷◌, map, length, Some, None, Option, refl, ap, ◌∙◌, subst, ap₂}
+use Rattle.std.proofs.Common.{◌≡◌, ℕ, not, List, [], ◌∷◌, map, Some, None, Option, refl, ap, ◌∙◌, subst, ap₂, arith}
 use Rattle.ring.specs.Algebra.{RingOn, FieldOf}
 use Rattle.worksheet.specs.declared.Var.{Var}
 use Rattle.worksheet.specs.declared.Var.TheVariants.{Native, Circuit}
 use Rattle.worksheet.specs.Sheet.{Sheet}
 use Rattle.worksheet.specs.Calls.{Answered, divided, inverted}
-use Rattle.worksheet.specs.Runs.{
-  Role,
-  prover,
-  verifier,
-  Decided,
-  Call,
-  erase,
-  constant,
-  witness,
-  add,
-  multiply,
-  negate,
-  subtract,
-  divide,
-  invert,
-  assert_equal,
-  boolean_constant,
-  boolean_witness,
-  boolean_assert,
-  boolean_not,
-  boolean_and,
-  boolean_or,
-  select,
-  Settled,
-  native_square,
-  natives_differ,
-  clashes,
-  all_known,
-  SameCall,
-  same_constant,
-  same_witness,
-  same_add,
-  same_multiply,
-  same_negate,
-  same_subtract,
-  same_divide,
-  same_invert,
-  same_assert_equal,
-  same_boolean_constant,
-  same_boolean_witness,
-  same_boolean_assert,
-  same_boolean_not,
-  same_boolean_and,
-  same_boolean_or,
-  same_select,
-  SameCalls,
-  Capacities,
-  Reply,
-  reply,
-  Worksheet,
-  perform,
-  operands,
-  refusal,
-  call_causes,
-  step_by,
-  step,
-  run_from,
-  run,
-  opened,
-}
+use Rattle.worksheet.specs.Runs.{Role, prover, verifier, Decided, Call, erase, constant, witness, add, multiply, negate, subtract, divide, invert, assert_equal, boolean_constant, boolean_witness, boolean_assert, boolean_not, boolean_and, boolean_or, select, Settled, native_square, natives_differ, clashes, SameCall, same_constant, same_witness, same_add, same_multiply, same_negate, same_subtract, same_divide, same_invert, same_assert_equal, same_boolean_constant, same_boolean_witness, same_boolean_assert, same_boolean_not, same_boolean_and, same_boolean_or, same_select, SameCalls, Capacities, Reply, reply, Worksheet, perform, operands, refusal, call_causes, step_by, step, run_from, run, opened}
 
 -- two comparisons of the same members say the same
 decisions_agree : {M : Type 0} (x y : M) (d e : Decided x y) → d.yes? ≡ e.yes?
-decisions_agree x y d e = go d.yes? e.yes? refl refl
-  where
-    go : (a b : Bool) → d.yes? ≡ a → e.yes? ≡ b → a ≡ b
-    go true true p q = refl
-    go true false p q = absurd (e.if_no q (d.if_yes p))
-    go false true p q = absurd (d.if_no p (e.if_yes q))
-    go false false p q = refl
+decisions_agree x y d e = grind (arith, d.if_yes, d.if_no, e.if_yes, e.if_no)
 
 pub differ_agree : {M : Type 0} (x y : Var M) (d e : Settled x y) → natives_differ x y d ≡ natives_differ x y e
 differ_agree (Native x) (Native y) d e = ap not (decisions_agree x y d e)
@@ -123,15 +58,6 @@ module _ {M : Type 0} (R : RingOn M) (cap : Capacities) where
     inverted_alike (Native x) = ap (λ (z : M). (S, Native z)) (h x)
     inverted_alike (Circuit a) = refl
 
-  abbrev causes_of : Sheet M → List (Var M) → Bool → Answered M → List (Bool × ℕ)
-  causes_of S xs b p =
-      (not (all_known S xs), 3)
-      ∷ ((b, 4)
-      ∷ ((ltb cap.constants (length p.0.constants), 5)
-      ∷ ((ltb cap.witnesses p.0.witnesses, 6)
-      ∷ ((ltb cap.nodes (length p.0.nodes), 7)
-      ∷ ((ltb cap.assertions (length p.0.assertions), 8) ∷ [])))))
-
   module _ {r s : Role} where
     abbrev Shown : Worksheet M r × Reply M → Worksheet M s × Reply M → Type 0
     Shown x y = (x.0.sheet ≡ y.0.sheet) × (x.1 ≡ y.1)
@@ -160,8 +86,7 @@ module _ {M : Type 0} (R : RingOn M) (cap : Capacities) where
 
     pub causes_alike : (S : Sheet M) (c : Call R r) (d : Call R s) → SameCall c d → call_causes R cap S c ≡ call_causes R cap S d
     causes_alike S c d k =
-        let a = agree S c d k in
-        ap (λ xs. causes_of S xs (clashes R c) (perform R S c)) a.0 ∙ ap₂ (λ (b : Bool) (p : Answered M). causes_of S (operands d) b p) a.1 a.2
+        let a = agree S c d k in rw (a.0, a.1, a.2) refl
 
     shown_by : (o : Option ℕ) (P : Worksheet M r) (V : Worksheet M s) (c : Call R r) (d : Call R s) → SameCall c d → P.sheet ≡ V.sheet → Shown (step_by R r o P c) (step_by R s o V d)
     shown_by (Some n) P V c d k e = (e, refl)

@@ -43,10 +43,10 @@ module _ {M : Type 0} (R : RingOn M) where
 
   pub empty_wf : WellFormed {M = M} empty_sheet
   empty_wf = record {
-    asserted_left = λ j h. let z : ⊥ = omega arith in absurd z;
-    asserted_right = λ j h. let z : ⊥ = omega arith in absurd z;
-    earlier_left = λ n h. let z : ⊥ = omega arith in absurd z;
-    earlier_right = λ n h. let z : ⊥ = omega arith in absurd z;
+    asserted_left = λ j h. absurd (omega arith);
+    asserted_right = λ j h. absurd (omega arith);
+    earlier_left = λ n h. absurd (omega arith);
+    earlier_right = λ n h. absurd (omega arith);
     mixed = λ n h t. omega arith;
   }
 
@@ -55,7 +55,7 @@ module _ {M : Type 0} (R : RingOn M) where
     where
       keeps : (W : Worksheet M r) (c : Call R r) (o : Option ℕ) → refusal (call_causes R cap W.sheet c) ≡ o → WellFormed W.sheet → WellFormed (step_by R r o W c).0.sheet
       keeps W c (Some n) e wf = wf
-      keeps W c None e wf = (performs R W.sheet c wf (operands_known cap W.sheet c e)).0
+      keeps W c None e wf = (performs R W.sheet c wf (operands_known cap W.sheet c e)).wf
 
   pub within : (r : Role) (cap : Capacities) (cs : List (Call R r)) → Within cap (run R r cap cs).0.sheet
   within r cap cs =

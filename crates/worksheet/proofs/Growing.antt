@@ -1,6 +1,6 @@
 -- What appending does to a worksheet: it stays well formed, and what was there stays there.
-use Rattle.std.proofs.Common.{◌≡◌, ℕ, suc, ◌<◌, ◌≤◌, List, [], ◌∷◌, ◌++◌, length, get_or, sym, refl, ap, ◌∙◌, inl, inr, arith, length-append}
-use Rattle.std.proofs.lemmas.List.{get_or_append_left, get_or_push, append-nil, append_assoc}
+use Rattle.std.proofs.Common.{◌≡◌, ℕ, ◌<◌, ◌≤◌, List, [], ◌∷◌, ◌++◌, length, get_or, sym, refl, ap, ◌∙◌, inl, inr, arith}
+use Rattle.std.proofs.lemmas.List.{get_or_append_left, get_or_push, length_push, append-nil, append_assoc}
 use Rattle.std.proofs.lemmas.Bool.{cases_lt}
 use Rattle.worksheet.specs.declared.CircuitIdx.{CircuitIdx}
 use Rattle.worksheet.specs.declared.CircuitIdx.TheVariants.{Constant, Witness, Node}
@@ -10,9 +10,6 @@ use Rattle.worksheet.specs.declared.Var.{Var}
 use Rattle.worksheet.specs.declared.Var.TheVariants.{Native, Circuit}
 use Rattle.worksheet.specs.Sheet.{Sheet, WellFormed, Below, Present, BothConstant, left_of, right_of}
 use Rattle.worksheet.specs.Calls.{Answered, push_constant, push_witness, push_node, push_assertion, Op, plus_op, times_op, node_of}
-
-pub length_push : {A : Type 0} (xs : List A) (y : A) → length (xs ++ (y ∷ [])) ≡ suc (length xs)
-length_push xs y = simp length-append (omega arith)
 
 -- an entry of a list with one more is an old one or the new one
 pushed : {A : Type 0} (P : ℕ → A → Type 0) (xs : List A) (y d : A) → ((n : ℕ) → n < length xs → P n (get_or xs n d)) → P (length xs) y → (n : ℕ) → n < length (xs ++ (y ∷ [])) → P n (get_or (xs ++ (y ∷ [])) n d)
@@ -74,22 +71,13 @@ module _ {M : Type 0} where
   pub ext_assertion : (S : Sheet M) (a b : CircuitIdx) → Ext S (push_assertion S a b)
   ext_assertion S a b = record { constants = omega arith; witnesses = omega arith; nodes = omega arith; more_constants = ([], sym (append-nil S.constants)); more_nodes = ([], sym (append-nil S.nodes)) }
 
-  wf_constant : (S : Sheet M) (x : M) → WellFormed S → WellFormed (push_constant S x).0
-  wf_constant S x wf =
-      let T = (push_constant S x).0 in
-      let e = ext_constant S x in
-      record {
-        asserted_left = λ j h. present_ext S T e _ (wf.asserted_left j h);
-        asserted_right = λ j h. present_ext S T e _ (wf.asserted_right j h);
-        earlier_left = λ n h. below_ext S T e n _ (wf.earlier_left n h);
-        earlier_right = λ n h. below_ext S T e n _ (wf.earlier_right n h);
-        mixed = wf.mixed;
-      }
+  -- other constants and witnesses, of which S has no more
+  abbrev with_leaves : Sheet M → List M → ℕ → Sheet M
+  with_leaves S cs w = record { constants = cs; witnesses = w; nodes = S.nodes; assertions = S.assertions }
 
-  wf_witness : (S : Sheet M) → WellFormed S → WellFormed (push_witness S).0
-  wf_witness S wf =
-      let T = (push_witness S).0 in
-      let e = ext_witness S in
+  wf_leaves : (S : Sheet M) (cs : List M) (w : ℕ) → Ext S (with_leaves S cs w) → WellFormed S → WellFormed (with_leaves S cs w)
+  wf_leaves S cs w e wf =
+      let T = with_leaves S cs w in
       record {
         asserted_left = λ j h. present_ext S T e _ (wf.asserted_left j h);
         asserted_right = λ j h. present_ext S T e _ (wf.asserted_right j h);
@@ -133,10 +121,10 @@ module _ {M : Type 0} where
   fine_same S x wf k = record { wf = wf; ext = ext_refl S; known = k }
 
   pub fine_constant : (S : Sheet M) (x : M) → WellFormed S → Fine S (push_constant S x)
-  fine_constant S x wf = record { wf = wf_constant S x wf; ext = ext_constant S x; known = omega (arith, length_push S.constants x) }
+  fine_constant S x wf = record { wf = wf_leaves S _ _ (ext_constant S x) wf; ext = ext_constant S x; known = omega (arith, length_push S.constants x) }
 
   pub fine_witness : (S : Sheet M) → WellFormed S → Fine S (push_witness S)
-  fine_witness S wf = record { wf = wf_witness S wf; ext = ext_witness S; known = omega arith }
+  fine_witness S wf = record { wf = wf_leaves S _ _ (ext_witness S) wf; ext = ext_witness S; known = omega arith }
 
   pub fine_node : (S : Sheet M) (o : Op) (a b : CircuitIdx) → WellFormed S → Present S a → Present S b → (BothConstant a b → ⊥) → Fine S (push_node S (node_of o a b))
   fine_node S plus_op a b wf pa pb h = record { wf = wf_node S (Add a b) pa pb h wf; ext = ext_node S (Add a b); known = omega (arith, length_push S.nodes (Add a b)) }

@@ -1,6 +1,6 @@
 -- What a prover's worksheet stores is the value under its witness values.
 use Rattle.std.proofs.Common.{◌≡◌, ℕ, zero, suc, ◌+◌, ◌<◌, ◌≤◌, List, [], ◌∷◌, ◌++◌, length, get_or, drop, Some, None, Option, sym, refl, ap, ◌∙◌, ap₂, inl, inr, arith, length-append, length-drop, drop-cons}
-use Rattle.std.proofs.lemmas.List.{get_or_append_left, get_or_push}
+use Rattle.std.proofs.lemmas.List.{get_or_append_left, get_or_push, length_push}
 use Rattle.std.proofs.lemmas.Bool.{cases_lt}
 use Rattle.ring.specs.Algebra.{RingOn}
 use Rattle.worksheet.specs.declared.CircuitIdx.{CircuitIdx}
@@ -9,7 +9,7 @@ use Rattle.worksheet.specs.declared.CircuitNode.{CircuitNode}
 use Rattle.worksheet.specs.declared.CircuitNode.TheVariants.{Add}
 use Rattle.worksheet.specs.Sheet.{Sheet, WellFormed, Below, Present, node_at, left_of, right_of, combine, value_within, value}
 use Rattle.worksheet.specs.Runs.{prover, Call, perform, refusal, call_causes, Capacities, Worksheet, opened, step_by, run, look, work_out, fresh, values_of}
-use Rattle.worksheet.proofs.Growing.{length_push, Ext}
+use Rattle.worksheet.proofs.Growing.{Ext}
 use Rattle.worksheet.proofs.Performed.{performs}
 use Rattle.worksheet.proofs.Built.{operands_known, kept_along, empty_wf}
 use Rattle.worksheet.proofs.Witnesses.{appends}
@@ -40,7 +40,7 @@ module _ {M : Type 0} (R : RingOn M) (S : Sheet M) (ρ : List M) where
         let x = worth ws (node_at S m) in
         let k = g.count in
         record {
-          count = length_push ws x ∙ ap suc k;
+          count = omega (arith, length_push ws x);
           each = λ n l. elim (cases_lt n m) [
             | inl b ↦ (let b' : n < length ws = omega arith in get_or_append_left ws (x ∷ []) R.nought n b' ∙ g.each n b ∙ sym (worth_push ws x n (omega arith) (omega arith)))
             | inr b ↦ (let e : m ≡ n = omega arith in rw (← e) (get_or_push ws x R.nought m k ∙ sym (worth_push ws x m (omega arith) h)))
@@ -60,7 +60,7 @@ module _ {M : Type 0} (R : RingOn M) (S : Sheet M) (ρ : List M) where
     is_value : (ws : List M) → Good (length S.nodes) ws → (N n : ℕ) (a : CircuitIdx) → Below S n a → n ≤ N → n ≤ length S.nodes → look R S ρ ws a ≡ value_within R S ρ N a
     is_value ws g N n (Constant k) b h l = refl
     is_value ws g N n (Witness w) b h l = refl
-    is_value ws g zero n (Node m) b h l = let z : ⊥ = omega arith in absurd z
+    is_value ws g zero n (Node m) b h l = absurd (omega arith)
     is_value ws g (suc N) n (Node m) b h l =
         let i : m < length S.nodes = omega arith in
         g.each m i ∙ ap₂ (combine R (node_at S m)) (is_value ws g N m _ (wf.earlier_left m i) (omega arith) (omega arith)) (is_value ws g N m _ (wf.earlier_right m i) (omega arith) (omega arith))
@@ -97,16 +97,16 @@ module _ {M : Type 0} (R : RingOn M) where
       let more = fresh R (values_of R W) c in
       let g = performs R S c k.wf (operands_known R cap S c e) in
       record {
-        wf = g.0;
+        wf = g.wf;
         given_count = length-append W.given more ∙ ap (λ n. n + length more) k.given_count ∙ sym (appends R (values_of R W) S c);
-        good = good_out R T (W.given ++ more) g.0 (drop (length S.nodes) T.nodes) (length S.nodes) W.worked g.1.nodes refl
-            (good_ext S T W.given more k.wf g.1 k.given_count W.worked k.good);
+        good = good_out R T (W.given ++ more) g.wf (drop (length S.nodes) T.nodes) (length S.nodes) W.worked g.ext.nodes refl
+            (good_ext S T W.given more k.wf g.ext k.given_count W.worked k.good);
       }
 
   pub kept : (cap : Capacities) (cs : List (Call R prover)) → Kept (run R prover cap cs).0
   kept cap cs =
       kept_along R prover cap Kept (kept_by cap) cs (opened prover)
-      (record { wf = empty_wf R; given_count = refl; good = record { count = refl; each = λ n h. let z : ⊥ = omega arith in absurd z } })
+      (record { wf = empty_wf R; given_count = refl; good = record { count = refl; each = λ n h. absurd (omega arith) } })
 
   pub held : (cap : Capacities) (cs : List (Call R prover)) (a : CircuitIdx) →
       let W = (run R prover cap cs).0 in

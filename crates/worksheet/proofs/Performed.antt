@@ -1,5 +1,5 @@
 -- What each accepted call leaves is well formed, and grown from what was there.
-use Rattle.std.proofs.Common.{◌≡◌, ℕ, List, [], ◌∷◌, length, Some, None, Option, refl, arith}
+use Rattle.std.proofs.Common.{◌≡◌, ℕ, List, [], ◌∷◌, length, Some, None, Option, refl}
 use Rattle.ring.specs.Algebra.{RingOn, FieldOf}
 use Rattle.worksheet.specs.declared.CircuitIdx.{CircuitIdx}
 use Rattle.worksheet.specs.declared.CircuitIdx.TheVariants.{Constant}
@@ -54,10 +54,10 @@ use Rattle.worksheet.specs.Runs.{
 use Rattle.worksheet.proofs.Growing.{KnownVar, Ext, ext_trans, ext_refl, present_ext, known_ext, ext_assertion, wf_assertion, Fine, fine_after, fine_same, fine_constant, fine_witness, fine_node}
 
 not_left : (a b : CircuitIdx) → constant_of a ≡ None → BothConstant a b → ⊥
-not_left a b e t = let p = t.2 in let z : ◌≡◌ {A = ℕ} 0 1 = cc in omega arith
+not_left a b e t = cc (t.2)
 
 not_right : (a b : CircuitIdx) → constant_of b ≡ None → BothConstant a b → ⊥
-not_right a b e t = let p = t.3 in let z : ◌≡◌ {A = ℕ} 0 1 = cc in omega arith
+not_right a b e t = cc (t.3)
 
 abbrev pub AllKnown : {M : Type 0} → Sheet M → List (Var M) → Type 0
 AllKnown S [] = Unit {0}
@@ -165,29 +165,23 @@ module _ {M : Type 0} (R : RingOn M) where
       let e = ext_trans S d.0 p.0 h.ext g.ext in
       fine_after S p.0 _ e (fine_operate plus_op p.0 f p.1 g.wf (known_ext S p.0 e f kf) g.known)
 
-  abbrev Grown : Sheet M → Sheet M → Type 0
-  Grown S T = WellFormed T × Ext S T
-
-  grown : (S : Sheet M) (r : Answered M) → Fine S r → Grown S r.0
-  grown S r f = (f.wf, f.ext)
-
-  pub performs : {r : Role} (S : Sheet M) (c : Call R r) → WellFormed S → AllKnown S (operands c) → Grown S (perform R S c).0
-  performs S (constant x) wf k = grown S _ (fine_constant S x wf)
-  performs S (witness x) wf k = grown S _ (fine_witness S wf)
-  performs S (add x y) wf k = grown S _ (fine_operate plus_op S x y wf k.0 k.1.0)
-  performs S (multiply x y) wf k = grown S _ (fine_operate times_op S x y wf k.0 k.1.0)
-  performs S (negate x) wf k = grown S _ (fine_negated S x wf k.0)
-  performs S (subtract x y) wf k = grown S _ (fine_subtracted S x y wf k.0 k.1.0)
-  performs S (divide F x y) wf k = grown S _ (fine_divided F S x y wf k.0 k.1.0)
-  performs S (invert F x) wf k = grown S _ (fine_inverted F S x wf k.0)
-  performs S (assert_equal x y d) wf k = fine_asserted S x y wf k.0 k.1.0
-  performs S (boolean_constant b) wf k = (wf, ext_refl S)
+  pub performs : {r : Role} (S : Sheet M) (c : Call R r) → WellFormed S → AllKnown S (operands c) → Fine S (perform R S c)
+  performs S (constant x) wf k = fine_constant S x wf
+  performs S (witness x) wf k = fine_witness S wf
+  performs S (add x y) wf k = fine_operate plus_op S x y wf k.0 k.1.0
+  performs S (multiply x y) wf k = fine_operate times_op S x y wf k.0 k.1.0
+  performs S (negate x) wf k = fine_negated S x wf k.0
+  performs S (subtract x y) wf k = fine_subtracted S x y wf k.0 k.1.0
+  performs S (divide F x y) wf k = fine_divided F S x y wf k.0 k.1.0
+  performs S (invert F x) wf k = fine_inverted F S x wf k.0
+  performs S (assert_equal x y d) wf k = let f = fine_asserted S x y wf k.0 k.1.0 in record { wf = f.0; ext = f.1; known = known_ext S _ f.1 x k.0 }
+  performs S (boolean_constant b) wf k = fine_same S _ wf tt
   performs S (boolean_witness b) wf k =
       let q = push_witness S in
       let f = fine_witness S wf in
-      grown S _ (fine_after S q.0 _ f.ext (fine_squared q.0 q.1 f.wf f.known))
-  performs S (boolean_assert x d) wf k = grown S _ (fine_squared S x wf k.0)
-  performs S (boolean_not x) wf k = grown S _ (fine_subtracted S (Native R.unit) x wf tt k.0)
-  performs S (boolean_and x y) wf k = grown S _ (fine_operate times_op S x y wf k.0 k.1.0)
-  performs S (boolean_or x y) wf k = grown S _ (fine_either S x y wf k.0 k.1.0)
-  performs S (select b t f) wf k = grown S _ (fine_selected S b t f wf k.0 k.1.0 k.1.1.0)
+      fine_after S q.0 _ f.ext (fine_squared q.0 q.1 f.wf f.known)
+  performs S (boolean_assert x d) wf k = fine_squared S x wf k.0
+  performs S (boolean_not x) wf k = fine_subtracted S (Native R.unit) x wf tt k.0
+  performs S (boolean_and x y) wf k = fine_operate times_op S x y wf k.0 k.1.0
+  performs S (boolean_or x y) wf k = fine_either S x y wf k.0 k.1.0
+  performs S (select b t f) wf k = fine_selected S b t f wf k.0 k.1.0 k.1.1.0

@@ -1,32 +1,9 @@
 -- For proofs of code: when a call is accepted, and when it is refused.
-use Rattle.std.proofs.Common.{◌≡◌, ℕ, ◌≤◌, Bool, true, false, cond, ◌⊎◌, ◌↔◌, List, [], ◌∷◌, length, Some, None, Option, sym, refl, ap, ◌∙◌, inl, inr, true≢false, arith}
-use Rattle.std.proofs.lemmas.Bool.{cond-true, cond-false, le-ltb, not_from_true}
+use Rattle.std.proofs.Common.{◌≡◌, ℕ, ◌≤◌, Bool, true, false, cond, List, [], ◌∷◌, length, Some, None, Option, refl, ap, ◌∙◌}
+use Rattle.std.proofs.lemmas.Bool.{cond-false, le-ltb, not_from_true}
 use Rattle.ring.specs.Algebra.{RingOn}
 use Rattle.worksheet.specs.declared.Var.{Var}
-use Rattle.worksheet.specs.Runs.{
-  Role,
-  prover,
-  verifier,
-  Decided,
-  Settled,
-  native_square,
-  assert_equal,
-  boolean_assert,
-  SameCall,
-  same_assert_equal,
-  same_boolean_assert,
-  Call,
-  Capacities,
-  Worksheet,
-  perform,
-  operands,
-  all_known,
-  clashes,
-  refusal,
-  call_causes,
-  step_by,
-  step,
-}
+use Rattle.worksheet.specs.Runs.{Role, prover, verifier, Settled, native_square, assert_equal, boolean_assert, SameCall, same_assert_equal, same_boolean_assert, Call, Capacities, Worksheet, perform, operands, all_known, clashes, refusal, call_causes, step_by, step}
 use Rattle.worksheet.proofs.Alike.{causes_alike}
 
 -- no cause of refusal holds
@@ -44,18 +21,8 @@ clear [] e = tt
 clear (p ∷ ps) e = go p.0 refl e (clear ps)
   where
     go : (b : Bool) → p.0 ≡ b → cond b (Some p.1) (refusal ps) ≡ None → (refusal ps ≡ None → Clear ps) → (p.0 ≡ false) × Clear ps
-    go true h q rest = let z : ◌≡◌ {A = ℕ} 0 1 = cc in let y : ⊥ = omega arith in absurd y
+    go true h q rest = absurd (cc q)
     go false h q rest = (h, rest q)
-
--- the first cause that holds has number n
-abbrev pub Hit : ℕ → List (Bool × ℕ) → Type 0
-Hit n [] = ⊥
-Hit n (p ∷ ps) = ((p.0 ≡ true) × (p.1 ≡ n)) ⊎ ((p.0 ≡ false) × Hit n ps)
-
-pub refused_by : (n : ℕ) (ps : List (Bool × ℕ)) → Hit n ps → refusal ps ≡ Some n
-refused_by n [] h = absurd h
-refused_by n (p ∷ ps) (inl h) = cond-true p.0 _ _ h.0 ∙ ap Some h.1
-refused_by n (p ∷ ps) (inr h) = cond-false p.0 _ _ h.0 ∙ refused_by n ps h.1
 
 module _ {M : Type 0} (R : RingOn M) (r : Role) (cap : Capacities) (W : Worksheet M r) (c : Call R r) where
   pub accepts_step : all_known W.sheet (operands c) ≡ true → clashes R c ≡ false →
@@ -63,13 +30,6 @@ module _ {M : Type 0} (R : RingOn M) (r : Role) (cap : Capacities) (W : Workshee
       step R r cap W c ≡ step_by R r None W c
   accepts_step k e fits = ap (λ (o : Option ℕ). step_by R r o W c)
       (no_refusal (call_causes R cap W.sheet c) (not_from_true _ k, (e, (le-ltb _ _ fits.0, (le-ltb _ _ fits.1, (le-ltb _ _ fits.2, (le-ltb _ _ fits.3, tt)))))))
-
-  pub refuses_step : (n : ℕ) → Hit n (call_causes R cap W.sheet c) → step R r cap W c ≡ step_by R r (Some n) W c
-  refuses_step n h = ap (λ (o : Option ℕ). step_by R r o W c) (refused_by n (call_causes R cap W.sheet c) h)
-
--- what a test of equality decides
-abbrev pub decided_by : {M : Type 0} (x y : M) (b : Bool) → (b ≡ true ↔ x ≡ y) → Decided x y
-decided_by x y b t = record { yes? = b; if_yes = t.0; if_no = λ e q. true≢false (sym (t.1 q) ∙ e) }
 
 -- a step does not depend on which decision the call carries
 module _ {M : Type 0} (R : RingOn M) (cap : Capacities) where

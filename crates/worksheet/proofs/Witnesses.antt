@@ -80,31 +80,25 @@ module _ {M : Type 0} (R : RingOn M) where
       let p = operate R times_op d.0 b d.1 in
       operated plus_op p.0 f p.1 ∙ operated times_op d.0 b d.1 ∙ subtracts S t f
 
-  none_more : (m n : ℕ) → m ≡ n → m ≡ n + 0
-  none_more m n e = omega arith
-
-  one_more : (m n : ℕ) → m ≡ suc n → m ≡ n + 1
-  one_more m n e = omega arith
-
   module _ (val : CircuitIdx → M) (S : Sheet M) where
     pub appends : (c : Call R prover) → (perform R S c).0.witnesses ≡ S.witnesses + length (fresh R val c)
-    appends (constant x) = none_more _ _ refl
-    appends (witness x) = one_more _ _ refl
-    appends (add x y) = none_more _ _ (operated plus_op S x y)
-    appends (multiply x y) = none_more _ _ (operated times_op S x y)
-    appends (negate x) = none_more _ _ (negates S x)
-    appends (subtract x y) = none_more _ _ (subtracts S x y)
-    appends (divide F (Native x) (Native y)) = none_more _ _ refl
-    appends (divide F (Native x) (Circuit b)) = one_more _ _ (divides S (Native x) (Circuit b))
-    appends (divide F (Circuit a) (Native y)) = one_more _ _ (divides S (Circuit a) (Native y))
-    appends (divide F (Circuit a) (Circuit b)) = one_more _ _ (divides S (Circuit a) (Circuit b))
-    appends (invert F (Native x)) = none_more _ _ refl
-    appends (invert F (Circuit a)) = one_more _ _ (divides S (Native R.unit) (Circuit a))
-    appends (assert_equal x y d) = none_more _ _ (asserts S x y)
-    appends (boolean_constant b) = none_more _ _ refl
-    appends (boolean_witness b) = let q = push_witness S in one_more _ _ (squares q.0 q.1)
-    appends (boolean_assert x d) = none_more _ _ (squares S x)
-    appends (boolean_not x) = none_more _ _ (subtracts S (Native R.unit) x)
-    appends (boolean_and x y) = none_more _ _ (operated times_op S x y)
-    appends (boolean_or x y) = none_more _ _ (joins S x y)
-    appends (select b t f) = none_more _ _ (selects S b t f)
+    appends (constant x) = omega arith
+    appends (witness x) = omega arith
+    appends (add x y) = omega (arith, operated plus_op S x y)
+    appends (multiply x y) = omega (arith, operated times_op S x y)
+    appends (negate x) = omega (arith, negates S x)
+    appends (subtract x y) = omega (arith, subtracts S x y)
+    appends (divide F (Native x) (Native y)) = omega arith
+    appends (divide F (Native x) (Circuit b)) = omega (arith, divides S (Native x) (Circuit b))
+    appends (divide F (Circuit a) (Native y)) = omega (arith, divides S (Circuit a) (Native y))
+    appends (divide F (Circuit a) (Circuit b)) = omega (arith, divides S (Circuit a) (Circuit b))
+    appends (invert F (Native x)) = omega arith
+    appends (invert F (Circuit a)) = omega (arith, divides S (Native R.unit) (Circuit a))
+    appends (assert_equal x y d) = omega (arith, asserts S x y)
+    appends (boolean_constant b) = omega arith
+    appends (boolean_witness b) = let q = push_witness S in omega (arith, squares q.0 q.1)
+    appends (boolean_assert x d) = omega (arith, squares S x)
+    appends (boolean_not x) = omega (arith, subtracts S (Native R.unit) x)
+    appends (boolean_and x y) = omega (arith, operated times_op S x y)
+    appends (boolean_or x y) = omega (arith, joins S x y)
+    appends (select b t f) = omega (arith, selects S b t f)

@@ -63,6 +63,7 @@ pub struct Counts {
 }
 
 // The law on runs of builder calls, over the ring E.
+#[tactic(auto, using(crate::proofs::Law::law))]
 pub fn runs_are_lawful<E: Ring>() -> bool
     ensures law { LawOfRuns E.algebra }
     ensures says { result ≡ true }
