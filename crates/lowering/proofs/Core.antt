@@ -106,7 +106,7 @@ module _ {M : Type 0} (R : RingOn M) (S : Sheet M) (C : List CircuitIdx) (f : St
         | inl h ↦ rw h (sum_single R (worth R v l r f.place) (home C w) ∙ at_home w (first C w) d refl e)
         | inr n ↦ rw n.1 (sum_single R (worth R v l r f.place) (Left n.0) ∙ fit.anchor w n.0 n.4.0 (e ∙ ap Some n.1) n.2 n.3 n.4.1)
       ]
-      agrees zero (Node n) b d (as_worked e) = let z : ⊥ = omega arith in absurd z
+      agrees zero (Node n) b d (as_worked e) = absurd (omega arith)
       agrees (suc N) (Node n) b d (as_worked e) =
           let x = ex.node n d e in
           of_node (node_at S n) d x.1 (agrees N (left_of (node_at S n)) (below_reach S n N (left_of (node_at S n)) b (wf.earlier_left n x.0)))

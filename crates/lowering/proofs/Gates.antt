@@ -1,6 +1,6 @@
 -- A gate's product is the node of its two factors, so each out that is written is left times right.
 use Rattle.std.proofs.Common.{◌≡◌, ℕ, suc, ◌<◌, List, [], ◌∷◌, length, Some, None, Option, sym, refl, ap, ◌∙◌, inl, inr, arith}
-use Rattle.std.proofs.lemmas.List.{get_or_append_left, get_or_push}
+use Rattle.std.proofs.lemmas.List.{get_or_append_left, get_or_push, length_push}
 use Rattle.std.proofs.lemmas.Bool.{cond_both, cases_lt}
 use Rattle.ring.specs.Algebra.{RingOn}
 use Rattle.ring.proofs.Laws.{times_nought}
@@ -15,7 +15,6 @@ use Rattle.lowering.specs.Committed.{entry_at, first, at_position}
 use Rattle.lowering.specs.Lowering.{State, start, add_gate, multiply, work, walk, house, homeless_from, gate_of, anchor, anchor_first, walk_committed, after_assertions, housed, finished}
 use Rattle.lowering.specs.Columns.{value_or_zero, out_of}
 use Rattle.lowering.proofs.Explains.{gate_at}
-use Rattle.lowering.proofs.Grows.{length_more}
 use Rattle.lowering.proofs.Along.{keeps_walk, keeps_assertions}
 use Rattle.lowering.proofs.Valued.{Valued}
 
@@ -29,12 +28,12 @@ module _ {M : Type 0} (S : Sheet M) where
   fine_add : (g : Gate) (s : State M) → FineGate g → Fine s → Fine (add_gate g s)
   fine_add g s q h k l = elim (cases_lt k (length s.gates)) [
     | inl b ↦ rw (get_or_append_left s.gates (g ∷ []) (gate_of (Constant 0) None) k b) (h k b)
-    | inr b ↦ (let e : k ≡ length s.gates = omega (arith, length_more s.gates g) in rw (e, get_or_push s.gates g (gate_of (Constant 0) None) (length s.gates) refl) q)
+    | inr b ↦ (let e : k ≡ length s.gates = omega (arith, length_push s.gates g) in rw (e, get_or_push s.gates g (gate_of (Constant 0) None) (length s.gates) refl) q)
   ]
 
   no_product : (a : CircuitIdx) (o : Option CircuitIdx) → FineGate (gate_of a o)
   unfolding FineGate
-  no_product a o p e = let z : ◌≡◌ {A = ℕ} 0 1 = cc in let y : ⊥ = omega arith in absurd y
+  no_product a o p e = absurd cc
 
   its_product : (n : ℕ) (a b : CircuitIdx) → n < length S.nodes → node_at S n ≡ Mul a b → FineGate (record { left = a; right = Some b; product = Some (Node n) })
   unfolding FineGate
@@ -72,7 +71,7 @@ module _ {M : Type 0} (S : Sheet M) where
     pub fine_finished : ((i : ℕ) → i < length C → Present S (entry_at C i)) → Fine (finished R S C)
     fine_finished p =
         let s = after_assertions R S C in
-        let asserted = keeps_assertions R S C wf Fine (λ k s h. h) (λ w s h. h) (λ n s l h. fine_work n (node_at S n) s l refl h) S.assertions (start C) (λ j l. (wf.asserted_left j l, wf.asserted_right j l)) (λ k l. let z : ⊥ = omega arith in absurd z) in
+        let asserted = keeps_assertions R S C wf Fine (λ k s h. h) (λ w s h. h) (λ n s l h. fine_work n (node_at S n) s l refl h) S.assertions (start C) (λ j l. (wf.asserted_left j l, wf.asserted_right j l)) (λ k l. absurd (omega arith)) in
         fine_committed 0 C (housed R S C) p (fine_house (homeless_from s 0 S.witnesses) s asserted)
 
     module _ (val : CircuitIdx → M) (vals : Valued R S val) where

@@ -1,6 +1,6 @@
 -- Lowering only adds, and each addition keeps what is explained.
 use Rattle.std.proofs.Common.{◌≡◌, ℕ, ◌+◌, ◌<◌, ◌≤◌, Bool, true, false, cond, ◌&&◌, ◌⊎◌, List, [], ◌∷◌, ◌++◌, length, Some, None, Option, sym, refl, ap, ◌∙◌, inl, inr, arith, length-append}
-use Rattle.std.proofs.lemmas.List.{get_or_append_left, get_or_push}
+use Rattle.std.proofs.lemmas.List.{get_or_append_left, get_or_push, length_push}
 use Rattle.std.proofs.lemmas.Bool.{cond-true, cond-false, and_right, and_parts, cases_eq}
 use Rattle.ring.specs.Algebra.{RingOn}
 use Rattle.worksheet.specs.declared.CircuitIdx.{CircuitIdx}
@@ -16,9 +16,6 @@ use Rattle.lowering.specs.Combination.{Comb, single, at_one}
 use Rattle.lowering.specs.Lowering.{State, home, unplaced, put, add_gate, add_note, settle}
 use Rattle.lowering.proofs.Positions.{same_true, same_self}
 use Rattle.lowering.proofs.Explains.{gate_at, note_at, Stood, as_worked, as_slot, Worked, IsNoted, IsGate, Explained, by_sum, by_left, by_right, by_gate, Placed, nowhere, on_left, on_right, on_slot, Noted, of_left, of_right, of_slot, Explains, Anchored}
-
-pub length_more : {A : Type 0} (xs : List A) (x : A) → length (xs ++ (x ∷ [])) ≡ length xs + 1
-length_more xs x = length-append xs (x ∷ [])
 
 module _ {M : Type 0} (R : RingOn M) (C : List CircuitIdx) where
   pub record Grows (s t : State M) : Type 0 where
@@ -90,7 +87,7 @@ module _ {M : Type 0} (R : RingOn M) (C : List CircuitIdx) where
   grows_gate g s = record {
     comb = λ a c e. as_worked e;
     place = λ w e. refl;
-    gates = omega (arith, length_more s.gates g);
+    gates = omega (arith, length_push s.gates g);
     gate = λ k h. get_or_append_left s.gates (g ∷ []) _ k h;
     notes = omega arith;
     note = λ j h. refl;
@@ -98,7 +95,7 @@ module _ {M : Type 0} (R : RingOn M) (C : List CircuitIdx) where
 
   -- the new gate is the last
   pub gate_last : (g : Gate) (s : State M) → (length s.gates < length (add_gate g s).gates) × (gate_at (add_gate g s) (length s.gates) ≡ g)
-  gate_last g s = (omega (arith, length_more s.gates g), get_or_push s.gates g _ (length s.gates) refl)
+  gate_last g s = (omega (arith, length_push s.gates g), get_or_push s.gates g _ (length s.gates) refl)
 
   pub grows_note : (a : CircuitIdx) (p : Location) (s : State M) → Grows s (add_note a p s)
   grows_note a p s = record {
@@ -106,12 +103,12 @@ module _ {M : Type 0} (R : RingOn M) (C : List CircuitIdx) where
     place = λ w e. refl;
     gates = omega arith;
     gate = λ k h. refl;
-    notes = omega (arith, length_more s.notes (a, p));
+    notes = omega (arith, length_push s.notes (a, p));
     note = λ j h. get_or_append_left s.notes ((a, p) ∷ []) _ j h;
   }
 
   pub note_last : (a : CircuitIdx) (p : Location) (s : State M) → IsNoted (add_note a p s) a p
-  note_last a p s = (length s.notes, omega (arith, length_more s.notes (a, p)), get_or_push s.notes (a, p) _ (length s.notes) refl)
+  note_last a p s = (length s.notes, omega (arith, length_push s.notes (a, p)), get_or_push s.notes (a, p) _ (length s.notes) refl)
 
   pub grows_settle : (a : CircuitIdx) (p : Location) (s : State M) → Grows s (settle a p s)
   grows_settle a p s = record {
@@ -226,7 +223,7 @@ module _ {M : Type 0} (R : RingOn M) (S : Sheet M) (C : List CircuitIdx) where
       explains_by s t g ex (λ b c e. inl e) (λ w. inl refl)
       (λ j l. elim (cases_eq j (length s.notes)) [
         | inl h ↦ inr (rw (h, get_or_push s.notes (a, p) (Constant 0, One) (length s.notes) refl) (noted_up s t g a p nt, worked_up s t g a wk))
-        | inr h ↦ inl (omega (arith, length_more s.notes (a, p)))
+        | inr h ↦ inl (omega (arith, length_push s.notes (a, p)))
       ])
 
   pub explains_settle : (a : CircuitIdx) (p : Location) (s : State M) → Explains R S C s → ((w : ℕ) → a ≡ Witness w → Placed C s w p) → Explains R S C (settle a p s)

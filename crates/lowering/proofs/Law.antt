@@ -1,10 +1,9 @@
 -- The law on lowered worksheets holds.
 use Rattle.std.proofs.Common.{◌≡◌, ℕ, zero, suc, ◌+◌, ◌*◌, ◌<◌, ◌≤◌, true, false, not, ltb, ◌↔◌, List, [], ◌∷◌, map, length, get_or, Some, None, Option, sym, refl, ap, ◌∙◌, subst, ap₂, inl, inr, arith}
-use native.Mathlib.Nat.{max-le}
-use lib.ListN.{length-map}
+use Rattle.std.proofs.Math.Nat.{max-le}
 use Rattle.std.specs.List.{range_with_len}
 use Rattle.std.proofs.lemmas.List.FromFn.{length-map-range_with_len, get_or-map-range_with_len}
-use Rattle.std.proofs.lemmas.List.{get_or-map}
+use Rattle.std.proofs.lemmas.List.{get_or-map, length-map}
 use Rattle.std.proofs.lemmas.Bool.{and_parts, and_from, or_parts, not-false, both_ways, cases_eq, lt-ltb}
 use Rattle.refusal.specs.Outcome.{Outcome, accepted}
 use Rattle.ring.specs.Algebra.{RingOn}
@@ -36,12 +35,12 @@ use Rattle.lowering.proofs.Ranges.{width_fits, agreeing_vanish, vanish_agreeing,
 use Rattle.lowering.proofs.Gates.{fine_finished, out_is}
 
 are_present : {M : Type 0} (S : Sheet M) (C : List CircuitIdx) → all_present S C ≡ true → (i : ℕ) → i < length C → Present S (entry_at C i)
-are_present S [] e i h = let z : ⊥ = omega arith in absurd z
+are_present S [] e i h = absurd (omega arith)
 are_present S (a ∷ C) e zero h = is_present S a (and_parts (present S a) (all_present S C) e).0
 are_present S (a ∷ C) e (suc i) h = are_present S C (and_parts (present S a) (all_present S C) e).1 i (omega arith)
 
 none_homeless : {M : Type 0} (f : State M) (n : ℕ) → some_homeless f n ≡ false → (w : ℕ) → w < n → homeless f w ≡ false
-none_homeless f zero e w h = let z : ⊥ = omega arith in absurd z
+none_homeless f zero e w h = absurd (omega arith)
 none_homeless f (suc n) e w h =
     let p = or_parts (homeless f n) (some_homeless f n) e in
     elim (cases_eq w n) [

@@ -11,4 +11,4 @@ mod Entries
 mod Ranges
 mod Gates
 pub mod Law
-mod Figures
+pub mod Figures

@@ -1,6 +1,6 @@
 -- The rows of a matrix sum to what their combinations differ by, and its width covers their places.
 use Rattle.std.proofs.Common.{◌≡◌, ℕ, suc, ◌<◌, ◌≤◌, Bool, true, false, cond, eqb, List, [], ◌∷◌, sym, refl, ap, ◌∙◌, ap₂, inl, inr, arith}
-use native.Mathlib.Nat.{max-le}
+use Rattle.std.proofs.Math.Nat.{max-le}
 use Rattle.std.proofs.lemmas.Bool.{eq-eqb, ne_eqb, cond-true, cond-false, cases_eq}
 use Rattle.ring.specs.Algebra.{RingOn}
 use Rattle.ring.proofs.Laws.{nought_plus, difference_nought, nought_difference}

@@ -25,7 +25,7 @@ abbrev Found : ℕ → List CircuitIdx → ℕ → ℕ → Type 0
 Found i C w j = (m : ℕ) × (j ≡ i + m) × (m < length C) × (entry_at C m ≡ Witness w)
 
 found : (i : ℕ) (C : List CircuitIdx) (w j : ℕ) → first_from i C w ≡ Some j → Found i C w j
-found i [] w j e = let z : ◌≡◌ {A = ℕ} 0 1 = cc in let y : ⊥ = omega arith in absurd y
+found i [] w j e = absurd cc
 found i (a ∷ C) w j e = go (same a (Witness w)) refl e (found (suc i) C w j)
   where
     go : (b : Bool) → same a (Witness w) ≡ b → cond b (Some i) (first_from (suc i) C w) ≡ Some j → (first_from (suc i) C w ≡ Some j → Found (suc i) C w j) → Found i (a ∷ C) w j
@@ -38,13 +38,3 @@ first_is C w i e =
     let l : r.0 < length C = r.2 in
     let t : i ≡ r.0 = r.1 ∙ omega arith in
     (omega arith, rw t r.3)
-
--- a witness in the list has a first position
-pub has_first : (i : ℕ) (D : List CircuitIdx) (w m : ℕ) → m < length D → entry_at D m ≡ Witness w → (j : ℕ) × (first_from i D w ≡ Some j)
-has_first i [] w m h e = let z : ⊥ = omega arith in absurd z
-has_first i (a ∷ D) w zero h e = (i, cond-true (same a (Witness w)) (Some i) (first_from (suc i) D w) (rw e (eq-eqb w w refl)))
-has_first i (a ∷ D) w (suc m) h e = go (same a (Witness w)) (has_first (suc i) D w m (omega arith) e)
-  where
-    go : (b : Bool) → (j : ℕ) × (first_from (suc i) D w ≡ Some j) → (j : ℕ) × (cond b (Some i) (first_from (suc i) D w) ≡ Some j)
-    go true r = (i, refl)
-    go false r = r

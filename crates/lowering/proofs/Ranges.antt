@@ -56,7 +56,7 @@ module _ {A : Type 0} (P : A → Type 0) where
 
     map_each : (xs : List B) → All P (map f xs) → (j : ℕ) → j < length xs → P (f (get_or xs j d))
     unfolding All
-    map_each [] a j l = let z : ⊥ = omega arith in absurd z
+    map_each [] a j l = absurd (omega arith)
     map_each (x ∷ xs) a zero l = a.0
     map_each (x ∷ xs) a (suc j) l = map_each xs a.1 j (omega arith)
 
@@ -71,7 +71,7 @@ module _ {M : Type 0} (R : RingOn M) (S : Sheet M) (C : List CircuitIdx) (f : St
   In p = InRange c n f.place p
 
   in_place : (w : ℕ) (p : Location) → Placed C f w p → unplaced p ≡ false → InPlain c n p
-  in_place w p (nowhere e) h = let z : ◌≡◌ {A = ℕ} 0 1 = cc in let y : ⊥ = omega arith in absurd y
+  in_place w p (nowhere e) h = absurd cc
   in_place w p (on_left k e l _) h = rw e l
   in_place w p (on_right k e l _) h = rw e l
   in_place w p (on_slot i e q) h = rw e (first_is C w i q).0
@@ -99,7 +99,7 @@ module _ {M : Type 0} (R : RingOn M) (S : Sheet M) (C : List CircuitIdx) (f : St
     | inl h ↦ rw h (in_home w (first C w) d refl e, tt)
     | inr n ↦ rw n.1 (n.2, tt)
   ]
-  inside zero (Node m) b d (as_worked e) = let z : ⊥ = omega arith in absurd z
+  inside zero (Node m) b d (as_worked e) = absurd (omega arith)
   inside (suc N) (Node m) b d (as_worked e) =
       let x = done.explains.node m d e in
       in_node (node_at S m) d x.1 (inside N (left_of (node_at S m)) (below_reach S m N (left_of (node_at S m)) b (wf.earlier_left m x.0)))

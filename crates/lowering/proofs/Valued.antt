@@ -18,15 +18,15 @@ module _ {M : Type 0} (R : RingOn M) (S : Sheet M) (ρ : List M) (wf : WellForme
   stable : (n N K : ℕ) (a : CircuitIdx) → Below S n a → n ≤ N → n ≤ K → n ≤ length S.nodes → value_within R S ρ N a ≡ value_within R S ρ K a
   stable n N K (Constant k) b h l w = refl
   stable n N K (Witness k) b h l w = refl
-  stable n zero K (Node m) b h l w = let z : ⊥ = omega arith in absurd z
-  stable n (suc N) zero (Node m) b h l w = let z : ⊥ = omega arith in absurd z
+  stable n zero K (Node m) b h l w = absurd (omega arith)
+  stable n (suc N) zero (Node m) b h l w = absurd (omega arith)
   stable n (suc N) (suc K) (Node m) b h l w =
       let i : m < length S.nodes = omega arith in
       ap₂ (combine R (node_at S m)) (stable m N K (left_of (node_at S m)) (wf.earlier_left m i) (omega arith) (omega arith) (omega arith))
       (stable m N K (right_of (node_at S m)) (wf.earlier_right m i) (omega arith) (omega arith) (omega arith))
 
   at_node : (N n : ℕ) → n < N → N ≤ length S.nodes → value_within R S ρ N (Node n) ≡ combine R (node_at S n) (value_within R S ρ N (left_of (node_at S n))) (value_within R S ρ N (right_of (node_at S n)))
-  at_node zero n h l = let z : ⊥ = omega arith in absurd z
+  at_node zero n h l = absurd (omega arith)
   at_node (suc N) n h l =
       let i : n < length S.nodes = omega arith in
       ap₂ (combine R (node_at S n)) (stable n N (suc N) (left_of (node_at S n)) (wf.earlier_left n i) (omega arith) (omega arith) (omega arith))

@@ -143,7 +143,7 @@ module _ {M : Type 0} (R : RingOn M) (S : Sheet M) (C : List CircuitIdx) where
     walk_went : (N : ℕ) (a : CircuitIdx) (s : State M) → N ≤ length S.nodes → Below S N a → Explains R S C s → Went R S C s (walk R S C N a s) a
     walk_went N (Constant k) s l b ex = unless_went s _ (Constant k) (s.comb (Constant k)) refl ex (λ e. put_went s (Constant k) _ e ex refl)
     walk_went N (Witness w) s l b ex = unless_went s _ (Witness w) (s.comb (Witness w)) refl ex (λ e. put_went s (Witness w) _ e ex (inl refl, b))
-    walk_went zero (Node n) s l b ex = let z : ⊥ = omega arith in absurd z
+    walk_went zero (Node n) s l b ex = absurd (omega arith)
     walk_went (suc N) (Node n) s l b ex =
         let inside : n < length S.nodes = omega arith in
         let x = left_of (node_at S n) in
@@ -165,7 +165,7 @@ module _ {M : Type 0} (R : RingOn M) (S : Sheet M) (C : List CircuitIdx) where
         Grows R C s t × Explains R S C t
         × ((j : ℕ) → j < length ps → Worked R C t (get_or ps j (Constant 0, Constant 0)).0)
         × ((j : ℕ) → j < length ps → Worked R C t (get_or ps j (Constant 0, Constant 0)).1)
-    assertions_went [] s pr ex = (grows_refl R C s, ex, λ j h. let z : ⊥ = omega arith in absurd z, λ j h. let z : ⊥ = omega arith in absurd z)
+    assertions_went [] s pr ex = (grows_refl R C s, ex, λ j h. absurd (omega arith), λ j h. absurd (omega arith))
     assertions_went (p ∷ ps) s pr ex =
         let N = length S.nodes in
         let s1 = walk R S C N p.0 s in
@@ -236,7 +236,7 @@ module _ {M : Type 0} (R : RingOn M) (S : Sheet M) (C : List CircuitIdx) where
 
     anchor_next : Unanchored R C (suc i) (anchor R w s)
     anchor_next v j c f h e = elim (put_new R C (Witness w) (single R (Left (length s.gates))) s1 (Witness v) c e) [
-      | inl q ↦ (let same : v ≡ w = cc in let at : Some j ≡ Some i = sym f ∙ ap (first C) same ∙ first_is in let k : j ≡ i = cc in let z : ⊥ = omega arith in absurd z)
+      | inl q ↦ (let same : v ≡ w = cc in let at : Some j ≡ Some i = sym f ∙ ap (first C) same ∙ first_is in let k : j ≡ i = cc in absurd (omega arith))
       | inr q ↦ un v j c f (omega arith) q
     ]
 
@@ -297,7 +297,7 @@ module _ {M : Type 0} (R : RingOn M) (S : Sheet M) (C : List CircuitIdx) where
     Goes i D s t = Grows R C s t × Explains R S C t × Tied i D t
 
     committed_went : (i : ℕ) (D : List CircuitIdx) (s : State M) → Part i D → Unanchored R C i s → Explains R S C s → Goes i D s (walk_committed R S C i D s)
-    committed_went i [] s p un ex = (grows_refl R C s, ex, λ m h. let z : ⊥ = omega arith in absurd z)
+    committed_went i [] s p un ex = (grows_refl R C s, ex, λ m h. absurd (omega arith))
     committed_went i (a ∷ D) s p un ex =
         let here = part_here i a D p in
         let e = entry_went i a s here.0 here.1 un ex in
@@ -313,11 +313,11 @@ module _ {M : Type 0} (R : RingOn M) (S : Sheet M) (C : List CircuitIdx) where
     start_explains : Explains R S C (start C)
     start_explains = record {
       constant = λ k c e. cc;
-      witness = λ w c e. let z : ◌≡◌ {A = ℕ} 0 1 = cc in let y : ⊥ = omega arith in absurd y;
-      node = λ n c e. let z : ◌≡◌ {A = ℕ} 0 1 = cc in let y : ⊥ = omega arith in absurd y;
+      witness = λ w c e. absurd cc;
+      node = λ n c e. absurd cc;
       place = λ w. start_placed w (first C w) refl;
       slots = λ w i e. ap (slot_or One) e;
-      noted = λ j h. let y : ⊥ = omega arith in absurd y;
+      noted = λ j h. absurd (omega arith);
     }
 
     start_home : Unanchored R C 0 (start C)
