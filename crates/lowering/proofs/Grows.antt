@@ -26,15 +26,19 @@ module _ {M : Type 0} (R : RingOn M) (C : List CircuitIdx) where
     pub notes : length s.notes ≤ length t.notes
     pub note : (j : ℕ) → j < length s.notes → note_at t j ≡ note_at s j
 
-  pub grows_refl : (s : State M) → Grows s s
-  grows_refl s = record {
-    comb = λ a c e. as_worked e;
-    place = λ w e. refl;
-    gates = omega arith;
-    gate = λ k h. refl;
-    notes = omega arith;
-    note = λ j h. refl;
+  -- combinations and places change, gates and notes do not
+  grows_by : (s t : State M) → t.gates ≡ s.gates → t.notes ≡ s.notes → ((a : CircuitIdx) (c : Comb M) → s.comb a ≡ Some c → Stood R C t a c) → ((w : ℕ) → unplaced (s.place w) ≡ false → t.place w ≡ s.place w) → Grows s t
+  grows_by s t g n combs places = record {
+    comb = combs;
+    place = places;
+    gates = rw g (omega arith);
+    gate = λ k h. rw g refl;
+    notes = rw n (omega arith);
+    note = λ j h. rw n refl;
   }
+
+  pub grows_refl : (s : State M) → Grows s s
+  grows_refl s = grows_by s s refl refl (λ a c e. as_worked e) (λ w e. refl)
 
   -- what stood still has a combination
   pub stands : (s : State M) (a : CircuitIdx) (c : Comb M) → Stood R C s a c → (d : Comb M) × (s.comb a ≡ Some d)
@@ -74,14 +78,7 @@ module _ {M : Type 0} (R : RingOn M) (C : List CircuitIdx) where
       go false p = e
 
   pub grows_put : (a : CircuitIdx) (c : Comb M) (s : State M) → s.comb a ≡ None → Grows s (put a c s)
-  grows_put a c s n = record {
-    comb = λ b d e. as_worked (put_old a c s n b d e);
-    place = λ w e. refl;
-    gates = omega arith;
-    gate = λ k h. refl;
-    notes = omega arith;
-    note = λ j h. refl;
-  }
+  grows_put a c s n = grows_by s (put a c s) refl refl (λ b d e. as_worked (put_old a c s n b d e)) (λ w e. refl)
 
   pub grows_gate : (g : Gate) (s : State M) → Grows s (add_gate g s)
   grows_gate g s = record {
@@ -111,14 +108,9 @@ module _ {M : Type 0} (R : RingOn M) (C : List CircuitIdx) where
   note_last a p s = (length s.notes, omega (arith, length_push s.notes (a, p)), get_or_push s.notes (a, p) _ (length s.notes) refl)
 
   pub grows_settle : (a : CircuitIdx) (p : Location) (s : State M) → Grows s (settle a p s)
-  grows_settle a p s = record {
-    comb = λ a c e. as_worked e;
-    place = λ w e. cond-false (same (Witness w) a && unplaced (s.place w)) p (s.place w) (and_right (same (Witness w) a) (unplaced (s.place w)) e);
-    gates = omega arith;
-    gate = λ k h. refl;
-    notes = omega arith;
-    note = λ j h. refl;
-  }
+  grows_settle a p s =
+      grows_by s (settle a p s) refl refl (λ b c e. as_worked e)
+      (λ w e. cond-false (same (Witness w) a && unplaced (s.place w)) p (s.place w) (and_right (same (Witness w) a) (unplaced (s.place w)) e))
 
   settle_new : (a : CircuitIdx) (p : Location) (s : State M) (w : ℕ) → ((settle a p s).place w ≡ s.place w) ⊎ ((a ≡ Witness w) × ((settle a p s).place w ≡ p))
   settle_new a p s w = go (same (Witness w) a && unplaced (s.place w)) refl
@@ -129,14 +121,7 @@ module _ {M : Type 0} (R : RingOn M) (C : List CircuitIdx) where
 
   -- a committed witness gives its slot up for a gate
   pub grows_anchor : (w i : ℕ) (c : Comb M) (s : State M) → s.comb (Witness w) ≡ Some (single R (Committed i)) → first C w ≡ Some i → Grows s (put (Witness w) c s)
-  grows_anchor w i c s e f = record {
-    comb = λ b d h. go b d h (same b (Witness w)) refl;
-    place = λ w e. refl;
-    gates = omega arith;
-    gate = λ k h. refl;
-    notes = omega arith;
-    note = λ j h. refl;
-  }
+  grows_anchor w i c s e f = grows_by s (put (Witness w) c s) refl refl (λ b d h. go b d h (same b (Witness w)) refl) (λ v k. refl)
     where
       go : (b : CircuitIdx) (d : Comb M) → s.comb b ≡ Some d → (q : Bool) → same b (Witness w) ≡ q → Stood R C (put (Witness w) c s) b d
       go b d h true p =
