@@ -29,13 +29,16 @@ plain R v l r (Output k) = R.times (entry R l k) (entry R r k)
 plain R v l r (Committed i) = entry R v i
 
 -- a Witness place is looked up once
+abbrev pub looked_up : (ℕ → Location) → Location → Location
+looked_up place One = One
+looked_up place (Location.Witness w) = place w
+looked_up place (Left k) = Left k
+looked_up place (Right k) = Right k
+looked_up place (Output k) = Output k
+looked_up place (Committed i) = Committed i
+
 abbrev pub worth : {M : Type 0} → RingOn M → List M → List M → List M → (ℕ → Location) → Location → M
-worth R v l r place One = R.unit
-worth R v l r place (Location.Witness w) = plain R v l r (place w)
-worth R v l r place (Left k) = entry R l k
-worth R v l r place (Right k) = entry R r k
-worth R v l r place (Output k) = R.times (entry R l k) (entry R r k)
-worth R v l r place (Committed i) = entry R v i
+worth R v l r place p = plain R v l r (looked_up place p)
 
 -- the two sides of every row have one sum
 pub record Agreeing {M : Type 0} (R : RingOn M) (S : Sheet M) (f : State M) (v l r : List M) : Type 0 where

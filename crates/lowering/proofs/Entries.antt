@@ -10,7 +10,7 @@ use Rattle.lowering.specs.declared.Location.TheVariants.{One, Witness, Left, Rig
 use Rattle.lowering.specs.Combination.{Comb}
 use Rattle.lowering.specs.Rows.{column}
 use Rattle.lowering.proofs.Sums.{sum}
-use Rattle.lowering.proofs.Core.{plain, worth}
+use Rattle.lowering.proofs.Core.{plain, looked_up, worth}
 use Rattle.lowering.proofs.Matrices.{InAll}
 
 -- with c slots and n gates the place, which is no Witness, is there
@@ -23,12 +23,7 @@ InPlain c n (Output k) = k < n
 InPlain c n (Committed i) = i < c
 
 abbrev pub InRange : ℕ → ℕ → (ℕ → Location) → Location → Type 0
-InRange c n place One = Unit {0}
-InRange c n place (Witness w) = InPlain c n (place w)
-InRange c n place (Left k) = k < n
-InRange c n place (Right k) = k < n
-InRange c n place (Output k) = k < n
-InRange c n place (Committed i) = i < c
+InRange c n place p = InPlain c n (looked_up place p)
 
 plain_covered : (c n : ℕ) (place : ℕ → Location) (p : Location) → InPlain c n p → column 0 place c n p < 1 + c + 3 * n
 plain_covered c n place One h = omega arith
@@ -38,13 +33,16 @@ plain_covered c n place (Right k) h = omega arith
 plain_covered c n place (Output k) h = omega arith
 plain_covered c n place (Committed i) h = omega arith
 
+column_once : (c n : ℕ) (place : ℕ → Location) (p : Location) → column 1 place c n p ≡ column 0 place c n (looked_up place p)
+column_once c n place One = refl
+column_once c n place (Witness w) = refl
+column_once c n place (Left k) = refl
+column_once c n place (Right k) = refl
+column_once c n place (Output k) = refl
+column_once c n place (Committed i) = refl
+
 covered : (c n : ℕ) (place : ℕ → Location) (p : Location) → InRange c n place p → column 1 place c n p < 1 + c + 3 * n
-covered c n place One h = omega arith
-covered c n place (Witness w) h = plain_covered c n place (place w) h
-covered c n place (Left k) h = omega arith
-covered c n place (Right k) h = omega arith
-covered c n place (Output k) h = omega arith
-covered c n place (Committed i) h = omega arith
+covered c n place p h = rw (column_once c n place p) (plain_covered c n place (looked_up place p) h)
 
 module _ {M : Type 0} (R : RingOn M) where
   product_at : (l r : List M) (k : ℕ) → k < length l → k < length r → entry R (hadamard R l r) k ≡ R.times (entry R l k) (entry R r k)
@@ -98,12 +96,7 @@ module _ {M : Type 0} (R : RingOn M) where
     plain_entry (Committed i) h = at_committed i h
 
     place_entry : (p : Location) → InRange c n place p → entry R all (column 1 place c n p) ≡ worth R v l r place p
-    place_entry One h = refl
-    place_entry (Witness w) h = plain_entry (place w) h
-    place_entry (Left k) h = at_left k h
-    place_entry (Right k) h = at_right k h
-    place_entry (Output k) h = at_output k h
-    place_entry (Committed i) h = at_committed i h
+    place_entry p h = ap (entry R all) (column_once c n place p) ∙ plain_entry (looked_up place p) h
 
     pub sum_entries : (d : Comb M) → InAll (InRange c n place) d → sum R (λ p. entry R all (column 1 place c n p)) d ≡ sum R (worth R v l r place) d
     sum_entries [] h = refl

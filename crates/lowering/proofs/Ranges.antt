@@ -17,7 +17,7 @@ use Rattle.lowering.proofs.Sums.{sum, sum_single}
 use Rattle.lowering.proofs.Positions.{first_is}
 use Rattle.lowering.proofs.Explains.{note_at, Stood, as_worked, as_slot, Worked, Explained, by_sum, by_left, by_right, by_gate, Placed, nowhere, on_left, on_right, on_slot, Noted, of_left, of_right, of_slot, Complete}
 use Rattle.lowering.proofs.Grows.{stands}
-use Rattle.lowering.proofs.Core.{Reach, below_reach, reach_of, not_homeless, worth, Agreeing}
+use Rattle.lowering.proofs.Core.{Reach, below_reach, reach_of, worth, Agreeing}
 use Rattle.lowering.proofs.Matrices.{All, InAll, over, Even, RowCovered, even_vanish, vanish_even, width_rows}
 use Rattle.lowering.proofs.Entries.{InPlain, InRange, sum_entries, covered_all}
 
@@ -70,15 +70,19 @@ module _ {M : Type 0} (R : RingOn M) (S : Sheet M) (C : List CircuitIdx) (f : St
   abbrev In : Location → Type 0
   In p = InRange c n f.place p
 
-  in_place : (w : ℕ) (p : Location) → Placed C f w p → unplaced p ≡ false → InPlain c n p
-  in_place w p (nowhere e) h = absurd cc
-  in_place w p (on_left k e l _) h = rw e l
-  in_place w p (on_right k e l _) h = rw e l
-  in_place w p (on_slot i e q) h = rw e (first_is C w i q).0
+  in_place : (w : ℕ) (p : Location) → Placed C f w p → InPlain c n p
+  in_place w p (nowhere e) = rw e tt
+  in_place w p (on_left k e l _) = rw e l
+  in_place w p (on_right k e l _) = rw e l
+  in_place w p (on_slot i e q) = rw e (first_is C w i q).0
 
-  in_home : (w : ℕ) (o : Option ℕ) (d : Comb M) → first C w ≡ o → f.comb (Witness w) ≡ Some d → In (slot_or (Location.Witness w) o)
-  in_home w None d e h = in_place w (f.place w) (done.explains.place w) (not_homeless f w d h (done.settled w (done.explains.witness w d h).1))
-  in_home w (Some i) d e h = (first_is C w i e).0
+  -- a witness's place is One, or there
+  pub in_witness : (w : ℕ) → InPlain c n (f.place w)
+  in_witness w = in_place w (f.place w) (done.explains.place w)
+
+  in_home : (w : ℕ) (o : Option ℕ) → first C w ≡ o → In (slot_or (Location.Witness w) o)
+  in_home w None e = in_witness w
+  in_home w (Some i) e = (first_is C w i e).0
 
   abbrev Inside : CircuitIdx → Type 0
   Inside a = (d : Comb M) → Stood R C f a d → InAll In d
@@ -96,7 +100,7 @@ module _ {M : Type 0} (R : RingOn M) (S : Sheet M) (C : List CircuitIdx) (f : St
   inside N a b d (as_slot w i p h q x e) = rw q ((first_is C w i h).0, tt)
   inside N (Constant k) b d (as_worked e) = rw (done.explains.constant k d e) (tt, tt)
   inside N (Witness w) b d (as_worked e) = elim (done.explains.witness w d e).0 [
-    | inl h ↦ rw h (in_home w (first C w) d refl e, tt)
+    | inl h ↦ rw h (in_home w (first C w) refl, tt)
     | inr n ↦ rw n.1 (n.2, tt)
   ]
   inside zero (Node m) b d (as_worked e) = absurd (omega arith)
@@ -177,13 +181,3 @@ module _ {M : Type 0} (R : RingOn M) (S : Sheet M) (C : List CircuitIdx) (f : St
           asserted = λ j h. let i = in_assertion j h in sym (meets _ i.0) ∙ e.0 j h ∙ meets _ i.1;
           noted = λ j h. sym (meets _ (in_note j h).0) ∙ e.1 j h ∙ at_note j h;
         }
-
-  -- a witness's place is One, or there
-  pub in_witness : (w : ℕ) → InPlain c n (f.place w)
-  in_witness w = by (f.place w) (done.explains.place w)
-    where
-      by : (p : Location) → Placed C f w p → InPlain c n p
-      by p (nowhere e) = rw e tt
-      by p (on_left k e l _) = rw e l
-      by p (on_right k e l _) = rw e l
-      by p (on_slot i e q) = rw e (first_is C w i q).0
