@@ -1,6 +1,8 @@
 -- The rows of a matrix sum to what their combinations differ by, and its width covers their places.
 use Rattle.std.proofs.Common.{◌≡◌, ℕ, suc, ◌<◌, ◌≤◌, Bool, true, false, cond, eqb, List, [], ◌∷◌, sym, refl, ap, ◌∙◌, ap₂, inl, inr, arith}
 use Rattle.std.proofs.Math.Nat.{max-le}
+use Rattle.std.specs.List.{All}
+use Rattle.std.proofs.lemmas.List.Elements.{All-nil, All-cons, All-head, All-tail}
 use Rattle.std.proofs.lemmas.Bool.{eq-eqb, ne_eqb, cond-true, cond-false, cases_eq}
 use Rattle.ring.specs.Algebra.{RingOn}
 use Rattle.ring.proofs.Laws.{nought_plus, difference_nought, nought_difference}
@@ -11,10 +13,6 @@ use Rattle.lowering.specs.declared.Location.{Location}
 use Rattle.lowering.specs.Combination.{Comb, opposite}
 use Rattle.lowering.specs.Rows.{Row, add_terms, add_row, add_rows}
 use Rattle.lowering.proofs.Sums.{sum, sum_opposite}
-
-unfoldable pub All : {A : Type 0} → (A → Type 0) → List A → Type 0
-All P [] = Unit {0}
-All P (x ∷ xs) = P x × All P xs
 
 module _ {M : Type 0} (R : RingOn M) (list : List M) (at : Location → ℕ) where
   -- a combination's sum over the list
@@ -71,20 +69,17 @@ module _ {M : Type 0} (R : RingOn M) (list : List M) (at : Location → ℕ) whe
   ]
 
   pub even_vanish : (r : ℕ) (ws : List (Row M)) (m : Matrix M) → All Even ws → ((i : ℕ) → total i m ≡ R.nought) → (i : ℕ) → total i (add_rows R at r ws m) ≡ R.nought
-  unfolding All
   even_vanish r [] m a z i = z i
-  even_vanish r (w ∷ ws) m a z i = even_vanish (suc r) ws (add_row R at r w m) a.1 (λ j. one_even r w m a.0 j (z j)) i
+  even_vanish r (w ∷ ws) m a z i = even_vanish (suc r) ws (add_row R at r w m) (All-tail Even w ws a) (λ j. one_even r w m (All-head Even w ws a) j (z j)) i
 
   pub vanish_even : (r : ℕ) (ws : List (Row M)) (m : Matrix M) → ((i : ℕ) → total i (add_rows R at r ws m) ≡ R.nought) → ((i : ℕ) → r ≤ i → total i m ≡ R.nought) → All Even ws
-  unfolding All
-  vanish_even r [] m v z = tt
+  vanish_even r [] m v z = All-nil Even
   vanish_even r (w ∷ ws) m v z =
       let now = sym (kept (suc r) r ws (add_row R at r w m) (omega arith)) ∙ v r in
       let d = R.plus (over w.0) (R.minus (over w.1)) in
-      let e : d ≡ R.nought = sym (nought_plus R d) ∙ ap (λ u. R.plus u d) (sym (z r (omega arith))) ∙ sym (total_here r w m) ∙ now in (
-        difference_nought R (over w.0) (over w.1) e,
-        vanish_even (suc r) ws (add_row R at r w m) v (λ i l. total_elsewhere i r w m (λ q. omega arith) ∙ z i (omega arith)),
-      )
+      let e : d ≡ R.nought = sym (nought_plus R d) ∙ ap (λ u. R.plus u d) (sym (z r (omega arith))) ∙ sym (total_here r w m) ∙ now in
+      All-cons Even w ws (difference_nought R (over w.0) (over w.1) e)
+      (vanish_even (suc r) ws (add_row R at r w m) v (λ i l. total_elsewhere i r w m (λ q. omega arith) ∙ z i (omega arith)))
 
 -- every place of a combination is such
 abbrev pub InAll : {M : Type 0} → (Location → Type 0) → Comb M → Type 0
@@ -107,7 +102,7 @@ module _ {M : Type 0} (R : RingOn M) (at : Location → ℕ) (B : ℕ) where
   width_terms r (t ∷ c) m h l = let k = h.0 in width_terms r c _ h.1 (max-le l (omega arith))
 
   pub width_rows : (r : ℕ) (ws : List (Row M)) (m : Matrix M) → All RowCovered ws → m.width ≤ B → (add_rows R at r ws m).width ≤ B
-  unfolding All
   width_rows r [] m h l = l
   width_rows r (w ∷ ws) m h l =
-      width_rows (suc r) ws (add_row R at r w m) h.1 (width_terms r (opposite R w.1) _ (in_opposite w.1 h.0.1) (width_terms r w.0 m h.0.0 l))
+      let k = All-head RowCovered w ws h in
+      width_rows (suc r) ws (add_row R at r w m) (All-tail RowCovered w ws h) (width_terms r (opposite R w.1) _ (in_opposite w.1 k.1) (width_terms r w.0 m k.0 l))

@@ -1,5 +1,9 @@
 -- Every place of a finished lowering has a column, and the rows vanish exactly if their two sides agree.
 use Rattle.std.proofs.Common.{◌≡◌, ℕ, zero, suc, ◌+◌, ◌*◌, ◌<◌, ◌≤◌, false, List, [], ◌∷◌, ◌++◌, map, length, get_or, Some, None, Option, Ordering, Less, Equal, Greater, sym, refl, ap, ◌∙◌, inl, inr, arith}
+use Rattle.std.specs.List.{All}
+use Rattle.std.proofs.Math.Seq.{take-append_seam, drop-append_seam}
+use Rattle.std.proofs.lemmas.List.{get_or-map, length-map}
+use Rattle.std.proofs.lemmas.List.Elements.{All-append, All-map, All-from_get_or, All-take, All-drop}
 use Rattle.ring.specs.Algebra.{RingOn}
 use Rattle.matrix.specs.Matrix.{empty}
 use Rattle.circuit.specs.Verdict.{filled, RowsVanish}
@@ -18,7 +22,7 @@ use Rattle.lowering.proofs.Positions.{first_is}
 use Rattle.lowering.proofs.Explains.{note_at, Stood, as_worked, as_slot, Worked, Explained, by_sum, by_left, by_right, by_gate, Placed, nowhere, on_left, on_right, on_slot, Noted, of_left, of_right, of_slot, Complete}
 use Rattle.lowering.proofs.Grows.{stands}
 use Rattle.lowering.proofs.Core.{Reach, below_reach, reach_of, worth, Agreeing}
-use Rattle.lowering.proofs.Matrices.{All, InAll, over, Even, RowCovered, even_vanish, vanish_even, width_rows}
+use Rattle.lowering.proofs.Matrices.{InAll, over, Even, RowCovered, even_vanish, vanish_even, width_rows}
 use Rattle.lowering.proofs.Entries.{InPlain, InRange, sum_entries, covered_all}
 
 module _ {M : Type 0} (R : RingOn M) (P : Location → Type 0) where
@@ -37,28 +41,8 @@ module _ {M : Type 0} (R : RingOn M) (P : Location → Type 0) where
   in_scale x [] a = tt
   in_scale x (t ∷ c) a = (a.0, in_scale x c a.1)
 
-module _ {A : Type 0} (P : A → Type 0) where
-  all_both : (xs ys : List A) → All P xs → All P ys → All P (xs ++ ys)
-  unfolding All
-  all_both [] ys a b = b
-  all_both (x ∷ xs) ys a b = (a.0, all_both xs ys a.1 b)
-
-  all_parts : (xs ys : List A) → All P (xs ++ ys) → All P xs × All P ys
-  unfolding All
-  all_parts [] ys a = (tt, a)
-  all_parts (x ∷ xs) ys a = let r = all_parts xs ys a.1 in ((a.0, r.0), r.1)
-
-  module _ {B : Type 0} (f : B → A) (d : B) where
-    all_map : (xs : List B) → ((j : ℕ) → j < length xs → P (f (get_or xs j d))) → All P (map f xs)
-    unfolding All
-    all_map [] h = tt
-    all_map (x ∷ xs) h = (h 0 (omega arith), all_map xs (λ j l. h (suc j) (omega arith)))
-
-    map_each : (xs : List B) → All P (map f xs) → (j : ℕ) → j < length xs → P (f (get_or xs j d))
-    unfolding All
-    map_each [] a j l = absurd (omega arith)
-    map_each (x ∷ xs) a zero l = a.0
-    map_each (x ∷ xs) a (suc j) l = map_each xs a.1 j (omega arith)
+map_each : {A B : Type 0} (P : A → Type 0) (f : B → A) (d : B) (xs : List B) → All P (map f xs) → (j : ℕ) → j < length xs → P (f (get_or xs j d))
+map_each P f d xs a j l = rw (get_or-map f xs j d (f d) l) at (a j (f d) (omega (arith, length-map xs f)))
 
 module _ {M : Type 0} (R : RingOn M) (S : Sheet M) (C : List CircuitIdx) (f : State M) (wf : WellFormed S) (done : Complete R S C f) where
   abbrev c : ℕ
@@ -131,13 +115,17 @@ module _ {M : Type 0} (R : RingOn M) (S : Sheet M) (C : List CircuitIdx) (f : St
   module _ (P : Row M → Type 0) where
     rows_all : ((j : ℕ) → j < length S.assertions → P (assertion_row f (assertion_at S j))) → ((j : ℕ) → j < length f.notes → P (note_row R f (note_at f j))) → All P (rows R S f)
     rows_all a b =
-        all_both P (map (assertion_row f) S.assertions) (map (note_row R f) f.notes)
-        (all_map P (assertion_row f) (Constant 0, Constant 0) S.assertions a) (all_map P (note_row R f) (Constant 0, One) f.notes b)
+        All-append P (map (assertion_row f) S.assertions) (map (note_row R f) f.notes)
+        (All-map P (assertion_row f) S.assertions (All-from_get_or (λ p. P (assertion_row f p)) S.assertions (Constant 0, Constant 0) a))
+        (All-map P (note_row R f) f.notes (All-from_get_or (λ p. P (note_row R f p)) f.notes (Constant 0, One) b))
 
     rows_each : All P (rows R S f) → ((j : ℕ) → j < length S.assertions → P (assertion_row f (assertion_at S j))) × ((j : ℕ) → j < length f.notes → P (note_row R f (note_at f j)))
     rows_each h =
-        let p = all_parts P (map (assertion_row f) S.assertions) (map (note_row R f) f.notes) h in
-        (map_each P (assertion_row f) (Constant 0, Constant 0) S.assertions p.0, map_each P (note_row R f) (Constant 0, One) f.notes p.1)
+        let xs = map (assertion_row f) S.assertions in
+        let ys = map (note_row R f) f.notes in
+        let first : All P xs = rw (take-append_seam xs ys) at (All-take P (length xs) (xs ++ ys) h) in
+        let rest : All P ys = rw (drop-append_seam xs ys) at (All-drop P (length xs) (xs ++ ys) h) in
+        (map_each P (assertion_row f) (Constant 0, Constant 0) S.assertions first, map_each P (note_row R f) (Constant 0, One) f.notes rest)
 
   abbrev at : Location → ℕ
   at = column 1 f.place c n
