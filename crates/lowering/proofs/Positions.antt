@@ -1,6 +1,6 @@
 -- First positions in the committed list, and ids that are the same.
-use Rattle.std.proofs.Common.{◌≡◌, ℕ, zero, suc, ◌+◌, ◌<◌, Bool, true, false, cond, List, [], ◌∷◌, length, Some, refl, ap, ◌∙◌, arith}
-use Rattle.std.proofs.lemmas.Bool.{eqb-true, eq-eqb, cond-true}
+use Rattle.std.proofs.Common.{◌≡◌, ℕ, suc, ◌+◌, ◌<◌, Bool, true, false, cond, List, [], ◌∷◌, length, Some, refl, ap, ◌∙◌, arith}
+use Rattle.std.proofs.lemmas.Bool.{eqb-true, eq-eqb}
 use Rattle.worksheet.specs.declared.CircuitIdx.{CircuitIdx}
 use Rattle.worksheet.specs.declared.CircuitIdx.TheVariants.{Constant, Witness, Node}
 use Rattle.lowering.specs.Committed.{entry_at, same, first_from, first}

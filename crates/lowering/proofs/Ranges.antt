@@ -1,5 +1,5 @@
 -- Every place of a finished lowering has a column, and the rows vanish exactly if their two sides agree.
-use Rattle.std.proofs.Common.{◌≡◌, ℕ, zero, suc, ◌+◌, ◌*◌, ◌<◌, ◌≤◌, false, List, [], ◌∷◌, ◌++◌, map, length, get_or, Some, None, Option, Ordering, Less, Equal, Greater, sym, refl, ap, ◌∙◌, inl, inr, arith}
+use Rattle.std.proofs.Common.{◌≡◌, ℕ, zero, suc, ◌+◌, ◌*◌, ◌<◌, ◌≤◌, List, [], ◌∷◌, ◌++◌, map, length, get_or, Some, None, Option, Ordering, Less, Equal, Greater, sym, refl, ap, ◌∙◌, inl, inr, arith}
 use Rattle.std.specs.List.{All}
 use Rattle.std.proofs.Math.Seq.{take-append_seam, drop-append_seam}
 use Rattle.std.proofs.lemmas.List.{get_or-map, length-map}
@@ -15,7 +15,7 @@ use Rattle.lowering.specs.declared.Location.{Location}
 use Rattle.lowering.specs.declared.Location.TheVariants.{One}
 use Rattle.lowering.specs.Committed.{first}
 use Rattle.lowering.specs.Combination.{Comb, single, scale, merge, choose, order}
-use Rattle.lowering.specs.Lowering.{State, slot_or, comb_of, or_empty, unplaced}
+use Rattle.lowering.specs.Lowering.{State, slot_or, comb_of, or_empty}
 use Rattle.lowering.specs.Rows.{Row, assertion_row, note_row, rows, column, matrix_of}
 use Rattle.lowering.proofs.Sums.{sum, sum_single}
 use Rattle.lowering.proofs.Positions.{first_is}

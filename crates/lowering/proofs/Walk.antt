@@ -71,20 +71,17 @@ module _ {M : Type 0} (R : RingOn M) (S : Sheet M) (C : List CircuitIdx) where
     node_went : (c : Comb M) → (Grows R C s (put (Node n) c s) → Explained R S C (put (Node n) c s) (node_at S n) c) → Went R S C s (put (Node n) c s) (Node n)
     node_went c how = put_went s (Node n) c fresh ex (inside, how (grows_put R C (Node n) c s fresh))
 
-    stood_a : (c : Comb M) → Grows R C s (put (Node n) c s) → Stood R C (put (Node n) c s) a (comb_of s a)
-    stood_a c g = stood_up R C s (put (Node n) c s) g a (comb_of s a) (stood_now s a wa)
-
-    stood_b : (c : Comb M) → Grows R C s (put (Node n) c s) → Stood R C (put (Node n) c s) b (comb_of s b)
-    stood_b c g = stood_up R C s (put (Node n) c s) g b (comb_of s b) (stood_now s b wb)
+    stood_in : (x : CircuitIdx) → Worked R C s x → (c : Comb M) → Grows R C s (put (Node n) c s) → Stood R C (put (Node n) c s) x (comb_of s x)
+    stood_in x w c g = stood_up R C s (put (Node n) c s) g x (comb_of s x) (stood_now s x w)
 
     add_went : node_at S n ≡ Add a b → Went R S C s (put (Node n) (merge R (comb_of s a) (comb_of s b)) s) (Node n)
-    add_went e = let c = merge R (comb_of s a) (comb_of s b) in node_went c (λ g. by_sum a b (comb_of s a) (comb_of s b) e (stood_a c g) (stood_b c g) refl)
+    add_went e = let c = merge R (comb_of s a) (comb_of s b) in node_went c (λ g. by_sum a b (comb_of s a) (comb_of s b) e (stood_in a wa c g) (stood_in b wb c g) refl)
 
     left_went : (k : ℕ) → node_at S n ≡ Mul a b → a ≡ Constant k → Went R S C s (put (Node n) (scale R (element R S k) (comb_of s b)) s) (Node n)
-    left_went k e q = let c = scale R (element R S k) (comb_of s b) in node_went c (λ g. by_left k b (comb_of s b) (e ∙ ap (λ x. Mul x b) q) (stood_b c g) refl)
+    left_went k e q = let c = scale R (element R S k) (comb_of s b) in node_went c (λ g. by_left k b (comb_of s b) (e ∙ ap (λ x. Mul x b) q) (stood_in b wb c g) refl)
 
     right_went : (k : ℕ) → node_at S n ≡ Mul a b → b ≡ Constant k → Went R S C s (put (Node n) (scale R (element R S k) (comb_of s a)) s) (Node n)
-    right_went k e q = let c = scale R (element R S k) (comb_of s a) in node_went c (λ g. by_right a k (comb_of s a) (e ∙ ap (λ x. Mul a x) q) (stood_a c g) refl)
+    right_went k e q = let c = scale R (element R S k) (comb_of s a) in node_went c (λ g. by_right a k (comb_of s a) (e ∙ ap (λ x. Mul a x) q) (stood_in a wa c g) refl)
 
     product_went : node_at S n ≡ Mul a b → Went R S C s (product R n a b s) (Node n)
     product_went e =
@@ -163,9 +160,8 @@ module _ {M : Type 0} (R : RingOn M) (S : Sheet M) (C : List CircuitIdx) where
     assertions_went : (ps : List (CircuitIdx × CircuitIdx)) (s : State M) → Each S ps → Explains R S C s →
         let t = walk_assertions R S C ps s in
         Grows R C s t × Explains R S C t
-        × ((j : ℕ) → j < length ps → Worked R C t (get_or ps j (Constant 0, Constant 0)).0)
-        × ((j : ℕ) → j < length ps → Worked R C t (get_or ps j (Constant 0, Constant 0)).1)
-    assertions_went [] s pr ex = (grows_refl R C s, ex, λ j h. absurd (omega arith), λ j h. absurd (omega arith))
+        × ((j : ℕ) → j < length ps → Worked R C t (get_or ps j (Constant 0, Constant 0)).0 × Worked R C t (get_or ps j (Constant 0, Constant 0)).1)
+    assertions_went [] s pr ex = (grows_refl R C s, ex, λ j h. absurd (omega arith))
     assertions_went (p ∷ ps) s pr ex =
         let N = length S.nodes in
         let s1 = walk R S C N p.0 s in
@@ -178,14 +174,10 @@ module _ {M : Type 0} (R : RingOn M) (S : Sheet M) (C : List CircuitIdx) where
         let g2 = grows_trans R C s1 s2 t w2.grows r.0 in (
           grows_trans R C s s1 t w1.grows g2,
           r.1,
-          (λ j. elim j as (λ j. j < length (p ∷ ps) → Worked R C t (get_or (p ∷ ps) j (Constant 0, Constant 0)).0) [
-            | zero ↦ λ h. worked_up R S C s1 t g2 p.0 w1.worked
+          λ j. elim j as (λ j. j < length (p ∷ ps) → Worked R C t (get_or (p ∷ ps) j (Constant 0, Constant 0)).0 × Worked R C t (get_or (p ∷ ps) j (Constant 0, Constant 0)).1) [
+            | zero ↦ λ h. (worked_up R S C s1 t g2 p.0 w1.worked, worked_up R S C s2 t r.0 p.1 w2.worked)
             | suc m ↦ λ h. r.2 m (omega arith)
-          ]),
-          (λ j. elim j as (λ j. j < length (p ∷ ps) → Worked R C t (get_or (p ∷ ps) j (Constant 0, Constant 0)).1) [
-            | zero ↦ λ h. worked_up R S C s2 t r.0 p.1 w2.worked
-            | suc m ↦ λ h. r.3 m (omega arith)
-          ]),
+          ],
         )
 
   housed_one : (w : ℕ) (o : Option CircuitIdx) (s : State M) → Explains R S C s → Explains R S C (settle (Witness w) (Left (length s.gates)) (add_gate (gate_of (Witness w) o) s))
@@ -340,8 +332,8 @@ module _ {M : Type 0} (R : RingOn M) (S : Sheet M) (C : List CircuitIdx) where
         let g = grows_trans R C s1 s2 f h.0 c.0 in
         record {
           explains = c.1;
-          asserted_left = λ j l. worked_up R S C s1 f g (assertion_at S j).0 (a.2 j l);
-          asserted_right = λ j l. worked_up R S C s1 f g (assertion_at S j).1 (a.3 j l);
+          asserted_left = λ j l. worked_up R S C s1 f g (assertion_at S j).0 (a.2 j l).0;
+          asserted_right = λ j l. worked_up R S C s1 f g (assertion_at S j).1 (a.2 j l).1;
           tied = λ i l. (let q : 0 + i ≡ i = omega arith in rw q at (c.2 i l));
           settled = accepts;
         }
