@@ -1,5 +1,5 @@
 -- What appending does to a worksheet: it stays well formed, and what was there stays there.
-use Rattle.std.proofs.Common.{◌≡◌, ℕ, ◌<◌, ◌≤◌, List, [], ◌∷◌, ◌++◌, length, get_or, sym, refl, ap, ◌∙◌, inl, inr, arith}
+use Rattle.std.proofs.Common.{◌≡◌, ℕ, ◌<◌, ◌≤◌, List, [], ◌∷◌, ◌++◌, length, get_or, sym, refl, ap, ◌∙◌, inl, inr, arith, length-append}
 use Rattle.std.proofs.lemmas.List.{get_or_append_left, get_or_push, length_push, append-nil, append_assoc}
 use Rattle.std.proofs.lemmas.Bool.{cases_lt}
 use Rattle.worksheet.specs.declared.CircuitIdx.{CircuitIdx}
@@ -22,6 +22,9 @@ abbrev pub KnownVar : {M : Type 0} → Sheet M → Var M → Type 0
 KnownVar S (Native x) = Unit {0}
 KnownVar S (Circuit a) = Present S a
 
+none_more : {A : Type 0} (xs : List A) → (us : List A) × (xs ≡ xs ++ us)
+none_more xs = ([], sym (append-nil xs))
+
 joined : {A : Type 0} (xs ys zs : List A) → ((us : List A) × (ys ≡ xs ++ us)) → ((us : List A) × (zs ≡ ys ++ us)) → (us : List A) × (zs ≡ xs ++ us)
 joined xs ys zs a b = (a.0 ++ b.0, b.1 ∙ ap (λ u. u ++ b.0) a.1 ∙ append_assoc xs a.0 b.0)
 
@@ -33,17 +36,21 @@ pub record Ext {M : Type 0} (S T : Sheet M) : Type 0 where
   pub more_nodes : (xs : List CircuitNode) × (T.nodes ≡ S.nodes ++ xs)
 
 module _ {M : Type 0} where
-  pub ext_trans : (S T U : Sheet M) → Ext S T → Ext T U → Ext S U
-  ext_trans S T U e f = record {
-    constants = omega arith;
-    witnesses = omega arith;
-    nodes = omega arith;
-    more_constants = joined S.constants T.constants U.constants e.more_constants f.more_constants;
-    more_nodes = joined S.nodes T.nodes U.nodes e.more_nodes f.more_nodes;
+  ext_by : (S T : Sheet M) → S.witnesses ≤ T.witnesses → ((xs : List M) × (T.constants ≡ S.constants ++ xs)) → ((xs : List CircuitNode) × (T.nodes ≡ S.nodes ++ xs)) → Ext S T
+  ext_by S T more_witnesses cs ns = record {
+    constants = rw cs.1 (simp length-append (omega arith));
+    witnesses = more_witnesses;
+    nodes = rw ns.1 (simp length-append (omega arith));
+    more_constants = cs;
+    more_nodes = ns;
   }
 
+  pub ext_trans : (S T U : Sheet M) → Ext S T → Ext T U → Ext S U
+  ext_trans S T U e f =
+      ext_by S U (omega arith) (joined S.constants T.constants U.constants e.more_constants f.more_constants) (joined S.nodes T.nodes U.nodes e.more_nodes f.more_nodes)
+
   pub ext_refl : (S : Sheet M) → Ext S S
-  ext_refl S = record { constants = omega arith; witnesses = omega arith; nodes = omega arith; more_constants = ([], sym (append-nil S.constants)); more_nodes = ([], sym (append-nil S.nodes)) }
+  ext_refl S = ext_by S S (omega arith) (none_more S.constants) (none_more S.nodes)
 
   below_ext : (S T : Sheet M) → Ext S T → (n : ℕ) (a : CircuitIdx) → Below S n a → Below T n a
   below_ext S T e n (Constant k) b = omega arith
@@ -60,16 +67,16 @@ module _ {M : Type 0} where
   known_ext S T e (Circuit a) b = present_ext S T e a b
 
   ext_constant : (S : Sheet M) (x : M) → Ext S (push_constant S x).0
-  ext_constant S x = record { constants = omega (arith, length_push S.constants x); witnesses = omega arith; nodes = omega arith; more_constants = (x ∷ [], refl); more_nodes = ([], sym (append-nil S.nodes)) }
+  ext_constant S x = ext_by S (push_constant S x).0 (omega arith) (x ∷ [], refl) (none_more S.nodes)
 
   ext_witness : (S : Sheet M) → Ext S (push_witness S).0
-  ext_witness S = record { constants = omega arith; witnesses = omega arith; nodes = omega arith; more_constants = ([], sym (append-nil S.constants)); more_nodes = ([], sym (append-nil S.nodes)) }
+  ext_witness S = ext_by S (push_witness S).0 (omega arith) (none_more S.constants) (none_more S.nodes)
 
   ext_node : (S : Sheet M) (nd : CircuitNode) → Ext S (push_node S nd).0
-  ext_node S nd = record { constants = omega arith; witnesses = omega arith; nodes = omega (arith, length_push S.nodes nd); more_constants = ([], sym (append-nil S.constants)); more_nodes = (nd ∷ [], refl) }
+  ext_node S nd = ext_by S (push_node S nd).0 (omega arith) (none_more S.constants) (nd ∷ [], refl)
 
   pub ext_assertion : (S : Sheet M) (a b : CircuitIdx) → Ext S (push_assertion S a b)
-  ext_assertion S a b = record { constants = omega arith; witnesses = omega arith; nodes = omega arith; more_constants = ([], sym (append-nil S.constants)); more_nodes = ([], sym (append-nil S.nodes)) }
+  ext_assertion S a b = ext_by S (push_assertion S a b) (omega arith) (none_more S.constants) (none_more S.nodes)
 
   -- other constants and witnesses, of which S has no more
   abbrev with_leaves : Sheet M → List M → ℕ → Sheet M
