@@ -1,4 +1,5 @@
 pub mod Held
+mod Filled
 pub mod Order
 pub mod Changed
 mod Placed

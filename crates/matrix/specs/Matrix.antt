@@ -33,7 +33,7 @@ abbrev pub touched : {M : Type 0} → RingOn M → ℕ → ℕ → ℕ → (M �
 touched R room r c f m =
     cond (nat_lt r limit && nat_lt c limit)
     (cond (present r c m.cells || nat_lt (length m.cells) room)
-    (accepted (raised (r + 1) (c + 1) (record { cells = changed R r c f m.cells; height = m.height; width = m.width })))
+    (accepted (through R r c f m))
     (refused 16))
     (refused 15)
 

@@ -1,5 +1,5 @@
 // The calls that make and change a matrix, and its product with a list.
-ghost use Rattle.std.specs.Prelude.{◌≡◌, ℕ, ◌<◌, cond, map, length, drop, MatchResult, OnErr, OnOk, ◌≢◌};
+ghost use Rattle.std.specs.Prelude.{◌≡◌, ℕ, ◌<◌, cond, map, length, take, drop, MatchResult, OnErr, OnOk, ◌≢◌};
 ghost use Rattle.refusal.specs.Outcome.{outcome};
 ghost use Rattle.refusal.specs.Number.{number_of};
 ghost use Rattle.matrix.specs.Cells.{same_place, covers, weight_at, meant, product, row_sum, entry};
@@ -25,14 +25,11 @@ impl<'a, E: Ring> SparseMatrix<'a, E> {
         ensures room { room result ≡ length cells.old }
         ensures lent { result.cells.ghost_name ≡ cells.entry.ghost_name }
     {
-        let blank = Cell {
+        cells.fill_with(|| Cell {
             row: 0,
             column: 0,
             weight: E::zero(),
-        };
-        for cell in cells.iter_mut() {
-            *cell = blank;
-        }
+        });
         SparseMatrix {
             cells,
             count: 0,
@@ -68,9 +65,12 @@ impl<'a, E: Ring> SparseMatrix<'a, E> {
         if row >= LIMIT || column >= LIMIT {
             return Err(Refusal::Beyond);
         }
-        let at = self.place(row, column);
-        let sum = self.weight(at, row, column).add(weight);
-        self.put(at, row, column, sum)
+        let place = self.find(row, column);
+        let sum = match place {
+            Ok(at) => self.cells[at].weight.add(weight),
+            Err(_) => weight,
+        };
+        self.put(place, row, column, sum)
     }
 
     // Sets the weight at a row and a column; an absent cell is made.
@@ -84,8 +84,8 @@ impl<'a, E: Ring> SparseMatrix<'a, E> {
         if row >= LIMIT || column >= LIMIT {
             return Err(Refusal::Beyond);
         }
-        let at = self.place(row, column);
-        self.put(at, row, column, weight)
+        let place = self.find(row, column);
+        self.put(place, row, column, weight)
     }
 
     // The sum of weight times the list's entry for each row; columns past the list's end are skipped.
@@ -99,9 +99,15 @@ impl<'a, E: Ring> SparseMatrix<'a, E> {
         Ok(())
     }
 
-    // Writes the weight at a row and a column, whose place is `at`, and raises the sizes to cover it.
-    fn put(&mut self, at: usize, row: u32, column: u32, weight: E) -> Result<(), Refusal>
-        requires place { Place self.old.cells.now self.old.count row column at }
+    // Writes a weight at the place of a row and a column, and raises the sizes to cover it.
+    fn put(
+        &mut self,
+        place: Result<usize, usize>,
+        row: u32,
+        column: u32,
+        weight: E,
+    ) -> Result<(), Refusal>
+        requires place { Place (take self.old.count self.old.cells.now) row column place }
         requires low { row < limit }
         requires near { column < limit }
         ensures answer { outcome (λ _. matrix E.means self.new) result ≡ assigned E.algebra (room self.old) row column (E.means weight) (matrix E.means self.old) }
@@ -109,9 +115,12 @@ impl<'a, E: Ring> SparseMatrix<'a, E> {
         ensures spare { drop self.new.count self.new.cells.now ≡ drop self.new.count self.old.cells.now }
         ensures lent { self.new.cells.ghost_name ≡ self.old.cells.ghost_name }
     {
-        let count = self.count;
-        let count = write(&mut self.cells, count, at, row, column, weight)?;
-        self.count = count;
+        let cell = Cell {
+            row,
+            column,
+            weight,
+        };
+        self.count = write(&mut self.cells, self.count, place, cell)?;
         self.height = self.height.max(row + 1);
         self.width = self.width.max(column + 1);
         Ok(())

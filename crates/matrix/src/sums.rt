@@ -10,10 +10,7 @@ pub fn accumulate<E: Ring>(cells: &[Cell<E>], list: &[E], res: &mut [E])
     requires { (w : ℕ) × (covers (length res.old) w cells.now ≡ true) }
     ensures { map E.means res.new ≡ product E.algebra (map E.means list.now) (length res.new) (meant E.means cells.now) }
 {
-    let zero = E::zero();
-    for sum in res.iter_mut() {
-        *sum = zero;
-    }
+    res.fill_with(|| E::zero());
     for cell in cells {
         if let Some(value) = entry(list, cell.column) {
             raise(res, cell.row, cell.weight.multiply(value));

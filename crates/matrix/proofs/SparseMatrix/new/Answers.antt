@@ -1,7 +1,9 @@
-use Rattle.std.proofs.Common.{arith}
-use Rattle.std.proofs.lemmas.List.Edits.{fill_by_more}
+use Rattle.matrix.proofs.Filled.{filled}
+use Rattle.std.proofs.Common.{◌≡◌, rules}
+use Rattle.matrix.specs.declared.Cell.{Cell}
 use Rattle.matrix.proofs.SparseMatrix.new.Goals as goal
 
-pub loop-cell-preserved : goal.loop-cell-preserved
-loop-cell-preserved g c k d h =
-    fill_by_more (λ _. record { row = 0; column = 0; weight = c.zero.result }) c.loop-cell.cells c.loop-cell.cell-index d (omega arith) (λ j l. c.loop-cell.invariant j d l) k h
+pub returns-clause-blank : goal.returns-clause-blank
+returns-clause-blank g c =
+    let r = g.E.Ring in
+    filled _ (λ (x : Cell _). (x.row ≡ 0) × (x.column ≡ 0) × (r.means x.weight ≡ r.algebra.nought)) (λ p x q called. search rules) _ _ _ c.fill_with.ensures.ran.1

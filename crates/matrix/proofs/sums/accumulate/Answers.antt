@@ -1,16 +1,13 @@
-use Rattle.std.proofs.Common.{◌+◌, map, length, get_or, sym, ap, ◌∙◌, subst, arith}
+use Rattle.std.proofs.Common.{◌≡◌, ◌+◌, map, length, get_or, sym, ap, ◌∙◌, subst, arith, rules}
 use lib.ListN.{length-map}
 use Rattle.std.proofs.lemmas.List.{get_or-map}
-use Rattle.std.proofs.lemmas.List.Edits.{fill_by_more}
+use Rattle.matrix.proofs.Filled.{filled}
 use Rattle.matrix.proofs.RowSums.{Summed, row_within, skipped, summed, all_summed}
 use Rattle.matrix.proofs.sums.accumulate.Goals as goal
 use Rattle.matrix.proofs.sums.accumulate.Goals.{in-Some, in_default}
 
-pub loop-sum-preserved : goal.loop-sum-preserved
-loop-sum-preserved g c i d lt = fill_by_more (λ _. c.zero-zero.result) c.loop-sum.res c.loop-sum.sum-index d (omega arith) (λ j l. c.loop-sum.invariant j d l) i lt
-
 pub loop-cell-init : goal.loop-cell-init
-loop-cell-init g c i d lt = ap g.E.Ring.means (c.loop-sum.invariant i d (omega arith)) ∙ c.zero-zero.ensures
+loop-cell-init g c = let r = g.E.Ring in filled _ (λ x. r.means x ≡ r.algebra.nought) (λ p x q called. search rules) _ _ _ c.fill_with.ensures.ran.1
 
 pub raise-requires : goal.raise-requires
 raise-requires g c =

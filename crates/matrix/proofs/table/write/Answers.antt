@@ -1,24 +1,29 @@
-use Rattle.std.proofs.Common.{sym, refl, ap, ◌∙◌, arith, length-set}
+use Rattle.std.proofs.Common.{◌<◌, ◌≤◌, length, take, refl, ap, sym, ◌∙◌, arith, length-set, length-take-le, rules}
+use Rattle.std.proofs.Math.Seq.{take-set-lt}
 use Rattle.std.proofs.lemmas.List.{drop-set-lt}
-use Rattle.std.proofs.lemmas.Bool.{lt-ltb, le-ltb, or_left, or_right, or_from}
-use Rattle.matrix.specs.Cells.{cell, meant}
-use Rattle.matrix.proofs.Placed.{found_in, absent_in, order_kept}
+use Rattle.std.proofs.lemmas.Bool.{le-ltb, or_left, or_from}
+use Rattle.matrix.specs.Cells.{meant}
+use Rattle.matrix.proofs.Order.{order_holds}
+use Rattle.matrix.proofs.Placed.{at_cell, at_gap, order_kept}
+use Rattle.matrix.proofs.Shift.{shifted, spared}
 use Rattle.matrix.proofs.table.write.Goals as goal
 
-pub returns-then-stands : goal.returns-then-stands
-returns-then-stands g c =
+pub returns-in-Ok : goal.returns-in-Ok
+returns-in-Ok g c =
     let m = g.E.Ring in
     let a = c.args in
-    let w = m.means a.weight in
-    let d = cell a.row a.column a.weight in
-    let lt = c.stands.ensures.inside c.if-stands.true in
-    let told = found_in m.algebra m.means a.row a.column a.cells.now a.count a.at d a.weight c.requires.front.fits c.requires.place lt (sym (c.stands.ensures.answer d lt) ∙ c.if-stands.true) in
+    let front = take a.count a.cells.now in
+    let found = rw c.in-Ok.is at c.requires.place in
+    let under : c.in-Ok.at < a.count = omega (arith, found.within, length-take-le a.count a.cells.now c.requires.fits) in
+    let told = at_cell m.algebra m.means a.cell.row a.cell.column front c.in-Ok.at a.cell a.cell.weight (order_holds front c.requires.ordered) found in
+    let written = ap (meant m.means) (take-set-lt a.count a.cells.now c.in-Ok.at a.cell under) ∙ told.written in
     record {
       verdict = sym (or_left _ _ told.there);
       done = record {
-        front = record { fits = simp length-set c.requires.front.fits; ordered = order_kept m.algebra m.means a.row a.column (λ _. w) _ _ c.requires.front.ordered told.written };
-        cells = told.written;
-        spare = drop-set-lt a.count a.cells.now a.at d lt;
+        fits = simp length-set c.requires.fits;
+        ordered = order_kept m.algebra m.means a.cell.row a.cell.column (λ _. m.means a.cell.weight) front _ c.requires.ordered written;
+        cells = written;
+        spare = drop-set-lt a.count a.cells.now c.in-Ok.at a.cell under;
       };
     }
 
@@ -26,20 +31,23 @@ pub returns-then-count-cells : goal.returns-then-count-cells
 returns-then-count-cells g c =
     let m = g.E.Ring in
     let a = c.args in
-    let told = absent_in m.algebra m.means a.row a.column a.cells.now a.count a.at a.weight c.requires.front.fits c.requires.front.ordered c.requires.place (λ x lt. sym (c.stands.ensures.answer x lt) ∙ c.if-stands.false) in
-    let written = ap (meant m.means) c.insert.ensures.cells ∙ told.written in
-    record {
-      verdict = sym (or_right _ _ (lt-ltb _ _ c.if-count-cells.true));
-      done = record {
-        front = record { fits = omega arith; ordered = order_kept m.algebra m.means a.row a.column (λ _. m.means a.weight) _ _ c.requires.front.ordered written };
-        cells = written;
-        spare = c.insert.ensures.spare;
-      };
-    }
+    let told = at_gap m.algebra m.means a.cell.row a.cell.column _ c.in-Err.at a.cell.weight (rw c.in-Err.is at c.requires.place) in
+    record { verdict = sym (or_from _ _ told.there (le-ltb _ _ (omega arith))); done = (refl, refl) }
 
-pub returns : goal.returns
-returns g c =
+pub returns-else-count-cells-clause-done : goal.returns-else-count-cells-clause-done
+returns-else-count-cells-clause-done g c =
     let m = g.E.Ring in
     let a = c.args in
-    let told = absent_in m.algebra m.means a.row a.column a.cells.now a.count a.at a.weight c.requires.front.fits c.requires.front.ordered c.requires.place (λ x lt. sym (c.stands.ensures.answer x lt) ∙ c.if-stands.false) in
-    record { verdict = sym (or_from _ _ told.there (le-ltb _ _ c.if-count-cells.false)); done = (refl, refl) }
+    let front = take a.count a.cells.now in
+    let gap = rw c.in-Err.is at c.requires.place in
+    let room : a.count < length a.cells.now = omega arith in
+    let within : c.in-Err.at ≤ a.count = omega (arith, gap.within, length-take-le a.count a.cells.now c.requires.fits) in
+    let told = at_gap m.algebra m.means a.cell.row a.cell.column front c.in-Err.at a.cell.weight gap in
+    let rot = c.rotate_right.new.self in
+    let written = ap (meant m.means) (shifted a.cells.now rot a.count c.in-Err.at a.cell room within c.rotate_right.ensures.after) ∙ told.written in
+    record {
+      fits = search rules;
+      ordered = order_kept m.algebra m.means a.cell.row a.cell.column (λ _. m.means a.cell.weight) front _ c.requires.ordered written;
+      cells = written;
+      spare = spared a.cells.now rot a.count c.in-Err.at a.cell room within c.rotate_right.ensures.after;
+    }
