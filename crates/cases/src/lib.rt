@@ -4,7 +4,7 @@
 #[cfg(test)]
 mod tests {
     use bit::Bit;
-    use circuit::{Circuit, Witness};
+    use circuit::{Circuit, Columns, Witness};
     use licensee::Hour;
     use matrix::{Cell, SparseMatrix};
     use refusal::Refusal;
@@ -33,6 +33,14 @@ mod tests {
 
     fn residue(number: u32) -> Residue {
         Residue::new(number)
+    }
+
+    fn columns<'a, E>(values: &'a [E], left: &'a [E], right: &'a [E]) -> Columns<'a, E> {
+        Columns {
+            values,
+            left,
+            right,
+        }
     }
 
     #[test]
@@ -125,16 +133,24 @@ mod tests {
         m.add(0, 1, residue(8190))?;
         assert_eq!(rt; Circuit::new(1, &m), Ok(1));
         let (four, two, zero) = (residue(4), residue(2), residue(0));
-        assert!(rt; Circuit::is_satisfied(&m, 1, 1, &[four], &[two], &[two]));
-        assert!(rt; Circuit::is_satisfied(&m, 1, 2, &[four], &[two, zero], &[four, zero]));
-        assert!(rt; !Circuit::is_satisfied(&m, 1, 2, &[four], &[two, zero], &[two, zero]));
-        assert!(rt; !Circuit::is_satisfied(&m, 1, 0, &[four], &[], &[]));
-        assert!(rt; !Circuit::is_satisfied(&m, 1, 1, &[four], &[two], &[two, two]));
-        assert!(rt; !Circuit::is_satisfied(&m, 2, 1, &[four], &[two], &[two]));
+        assert!(rt; Circuit::is_satisfied(&m, 1, 1, &columns(&[four], &[two], &[two])));
+        assert!(rt;
+            Circuit::is_satisfied(&m, 1, 2, &columns(&[four], &[two, zero], &[four, zero]))
+        );
+        assert!(rt;
+            !Circuit::is_satisfied(&m, 1, 2, &columns(&[four], &[two, zero], &[two, zero]))
+        );
+        assert!(rt; !Circuit::is_satisfied(&m, 1, 0, &columns(&[four], &[], &[])));
+        assert!(rt; !Circuit::is_satisfied(&m, 1, 1, &columns(&[four], &[two], &[two, two])));
+        assert!(rt; !Circuit::is_satisfied(&m, 2, 1, &columns(&[four], &[two], &[two])));
         m.pad(8, 0)?;
-        assert!(rt; Circuit::is_satisfied(&m, 1, 2, &[four], &[two, zero], &[four, zero]));
+        assert!(rt;
+            Circuit::is_satisfied(&m, 1, 2, &columns(&[four], &[two, zero], &[four, zero]))
+        );
         m.pad(9, 0)?;
-        assert!(rt; !Circuit::is_satisfied(&m, 1, 2, &[four], &[two, zero], &[four, zero]));
+        assert!(rt;
+            !Circuit::is_satisfied(&m, 1, 2, &columns(&[four], &[two, zero], &[four, zero]))
+        );
         Ok(())
     }
 
@@ -159,7 +175,7 @@ mod tests {
         let mut m = SparseMatrix::new(&mut table);
         m.pad(4, 0)?;
         let (zero, one) = ([residue(0)], [residue(1)]);
-        assert!(rt; Circuit::is_satisfied(&m, 0, 1, &[], &zero, &zero));
+        assert!(rt; Circuit::is_satisfied(&m, 0, 1, &columns(&[], &zero, &zero)));
         assert!(rt; Witness::new(&[], &[], &zero, &zero, &zero)?.is_satisfied(&m, 0, 1));
         assert!(rt; !Witness::new(&[], &[], &zero, &zero, &one)?.is_satisfied(&m, 0, 1));
         Ok(())
@@ -170,7 +186,7 @@ mod tests {
         let mut m = SparseMatrix::new(table);
         m.add(0, 3, E::one())?;
         m.set(0, 0, y.negate())?;
-        Ok(Circuit::is_satisfied(&m, 0, 1, &[], x, x))
+        Ok(Circuit::is_satisfied(&m, 0, 1, &columns(&[], x, x)))
     }
 
     #[test]

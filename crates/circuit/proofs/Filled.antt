@@ -1,7 +1,8 @@
 -- Where each entry of the filled columns stands.
-use Rattle.std.proofs.Common.{◌≡◌, ℕ, zero, suc, ◌-◌, ◌<◌, ◌≤◌, ◌⊎◌, List, [], ◌∷◌, ◌++◌, map, length, get_or, sym, refl, ap, ◌∙◌, inl, inr, arith}
-use lib.ListN.{length-map}
-use Rattle.std.proofs.lemmas.List.{get_or_append_left, get_or-append_right, get_or-map}
+use Rattle.std.proofs.Common.{◌≡◌, ℕ, zero, suc, ◌-◌, ◌<◌, ◌≤◌, ◌⊎◌, Bool, true, false, Decides, MatchBool, List, [], ◌∷◌, ◌++◌, map, length, get_or, sym, refl, ap, ◌∙◌, inl, inr, arith}
+use Rattle.std.proofs.lemmas.Bool.{false≢true}
+use Rattle.std.specs.List.{All, AllWithin, HoldsAt, zip}
+use Rattle.std.proofs.lemmas.List.{length-map, get_or_append_left, get_or-append_right, get_or-map}
 use Rattle.ring.specs.Algebra.{RingOn}
 use Rattle.matrix.specs.Cells.{entry}
 use Rattle.circuit.specs.Bulletproofs.{hadamard}
@@ -66,20 +67,31 @@ module _ {E M : Type 0} (R : RingOn M) (f : E → M) where
           pub past_all : (length ls ≤ k - 1 - length vs - length ls - length rs) ⊎ (length rs ≤ k - 1 - length vs - length ls - length rs) → R.nought ≡ at
           past_all p = sym (past_right ∙ product_past ls rs _ p)
 
-  -- out so far is left times right
-  abbrev pub Agree : List E → List E → List E → ℕ → Type 0
-  Agree ls rs os k = (i : ℕ) (x y z : E) → i < k → f (get_or os i z) ≡ R.times (f (get_or ls i x)) (f (get_or rs i y))
+  -- each out is its left times its right
+  abbrev pub Agrees : (E × E) × E → Type 0
+  Agrees p = f p.1 ≡ R.times (f p.0.0) (f p.0.1)
 
-  pub hadamard_is : (ls rs os : List E) → length ls ≡ length rs → length ls ≡ length os → Agree ls rs os (length os) → hadamard R (map f ls) (map f rs) ≡ map f os
+  pub hadamard_is : (ls rs os : List E) → length ls ≡ length rs → length ls ≡ length os → All Agrees (zip (zip ls rs) os) → hadamard R (map f ls) (map f rs) ≡ map f os
   hadamard_is [] [] [] p q h = refl
   hadamard_is [] (r ∷ rs) os p q h = absurd (omega arith)
   hadamard_is [] [] (o ∷ os) p q h = absurd (omega arith)
   hadamard_is (l ∷ ls) [] os p q h = absurd (omega arith)
   hadamard_is (l ∷ ls) (r ∷ rs) [] p q h = absurd (omega arith)
   hadamard_is (l ∷ ls) (r ∷ rs) (o ∷ os) p q h =
-      ap (λ m. m ∷ hadamard R (map f ls) (map f rs)) (sym (h 0 l r o (omega arith)))
-      ∙ ap (λ t. f o ∷ t) (hadamard_is ls rs os (omega arith) (omega arith) (λ i x y z lt. h (suc i) x y z (omega arith)))
+      let here = h 0 ((l, r), o) (omega arith) in
+      let rest = hadamard_is ls rs os (omega arith) (omega arith) (λ k d lt. h (suc k) d (omega arith)) in
+      cc
 
-  pub hadamard_at : (ls rs os : List E) (k : ℕ) (x y z : E) → k < length ls → k < length rs → k < length os → x ≡ get_or ls k x → y ≡ get_or rs k y → z ≡ get_or os k z → hadamard R (map f ls) (map f rs) ≡ map f os → f z ≡ R.times (f x) (f y)
-  hadamard_at ls rs os k x y z p q s a b c h =
-      ap f c ∙ sym (get_or-map f os k z R.nought s) ∙ ap (λ t. get_or t k R.nought) (sym h) ∙ product_at ls rs k x y p q a b
+  pub hadamard_at : (ls rs os : List E) → hadamard R (map f ls) (map f rs) ≡ map f os → All Agrees (zip (zip ls rs) os)
+  hadamard_at [] rs os h k d lt = absurd (omega arith)
+  hadamard_at (l ∷ ls) [] os h k d lt = absurd (omega arith)
+  hadamard_at (l ∷ ls) (r ∷ rs) [] h k d lt = absurd (omega arith)
+  hadamard_at (l ∷ ls) (r ∷ rs) (o ∷ os) h zero d lt = cc
+  hadamard_at (l ∷ ls) (r ∷ rs) (o ∷ os) h (suc k) d lt = hadamard_at ls rs os (cc) k d (omega arith)
+
+  -- the first zipped place that does not agree, or none, decides it
+  pub decided : (ls rs os : List E) → length ls ≡ length rs → length ls ≡ length os → (b : Bool) → MatchBool b (AllWithin Agrees (zip (zip ls rs) os) 0 (length (zip (zip ls rs) os))) ((k : ℕ) × (k < length (zip (zip ls rs) os)) × HoldsAt (λ p. Agrees p → ⊥) (zip (zip ls rs) os) k) → Decides b (hadamard R (map f ls) (map f rs) ≡ map f os)
+  decided ls rs os p q true all = (λ _. hadamard_is ls rs os p q (λ k d lt. all k d (omega arith) lt), λ _. refl)
+  decided [] rs os p q false apart = absurd (omega (arith, apart.1))
+  decided (l ∷ ls) rs os p q false apart =
+      (λ no'. absurd (false≢true no'), λ h. absurd (apart.2 ((l, l), l) (hadamard_at (l ∷ ls) rs os h apart.0 ((l, l), l) apart.1)))

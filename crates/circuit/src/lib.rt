@@ -3,12 +3,20 @@
 
 ghost use Rattle.std.specs.Prelude.{◌≡◌, length};
 
-mod columns;
+mod prover;
 mod rows;
 mod verdict;
 
 // A matrix read as a circuit: columns one, c committed, n left, n right, n out.
 pub struct Circuit;
+
+// The columns that a circuit's rows run over, but for one and out: out k is left k times right k.
+#[derive(Clone, Copy)]
+pub struct Columns<'a, E> {
+    pub values: &'a [E],
+    pub left: &'a [E],
+    pub right: &'a [E],
+}
 
 // A prover's columns, with the blinding of the committed values.
 #[derive(Drop)]

@@ -4,55 +4,63 @@ ghost use Rattle.matrix.specs.Cells.{in_order, meant, entry, row_sum};
 ghost use Rattle.circuit.specs.Bulletproofs.{hadamard};
 ghost use Rattle.circuit.specs.Verdict.{filled};
 
+use super::Columns;
 use matrix::Cell;
 use ring::Ring;
 
-// Column k of one, values, left, right, out, where out k is left k times right k; zero past them.
-fn column<E: Ring>(k: u32, values: &[E], left: &[E], right: &[E]) -> E
-    ensures { E.means result ≡ entry E.algebra (filled E.algebra (map E.means values.now) (map E.means left.now) (map E.means right.now)) k }
-{
-    if k == 0 {
-        return E::one();
-    }
-    let k = k as usize - 1;
-    if k < values.len() {
-        return values[k];
-    }
-    let k = k - values.len();
-    if k < left.len() {
-        return left[k];
-    }
-    let k = k - left.len();
-    if k < right.len() {
-        return right[k];
-    }
-    let k = k - right.len();
-    if k < left.len() && k < right.len() {
-        return left[k].multiply(right[k]);
-    }
-    E::zero()
-}
-
-// Whether every row's sum is zero, in one pass over cells in order.
-pub fn rows_vanish<E: Ring>(cells: &[Cell<E>], values: &[E], left: &[E], right: &[E]) -> bool
-    requires { in_order cells.now ≡ true }
-    ensures { Decides result ((i : ℕ) → row_sum E.algebra (filled E.algebra (map E.means values.now) (map E.means left.now) (map E.means right.now)) i (meant E.means cells.now) ≡ E.algebra.nought) }
-{
-    let zero = E::zero();
-    let mut sum = zero;
-    let mut row = 0;
-    for cell in cells {
-        if cell.row != row {
-            if !sum.equal(zero) {
-                return false;
-            }
-            sum = zero;
-            row = cell.row;
+impl<'a, E: Ring> Columns<'a, E> {
+    // Column k of one, values, left, right, out, where out k is left k times right k; zero past them.
+    fn entry(&self, k: u32) -> E
+        ensures { E.means result ≡ entry E.algebra (filled E.algebra (map E.means self.now.values.now) (map E.means self.now.left.now) (map E.means self.now.right.now)) k }
+    {
+        let Columns {
+            values,
+            left,
+            right,
+        } = *self;
+        if k == 0 {
+            return E::one();
         }
-        let x = column(cell.column, values, left, right);
-        sum = sum.add(cell.weight.multiply(x));
+        let k = k as usize - 1;
+        if k < values.len() {
+            return values[k];
+        }
+        let k = k - values.len();
+        if k < left.len() {
+            return left[k];
+        }
+        let k = k - left.len();
+        if k < right.len() {
+            return right[k];
+        }
+        let k = k - right.len();
+        if k < left.len() && k < right.len() {
+            return left[k].multiply(right[k]);
+        }
+        E::zero()
     }
-    sum.equal(zero)
+
+    // Whether every row's sum is zero, in one pass over cells in order.
+    pub(super) fn rows_vanish(&self, cells: &[Cell<E>]) -> bool
+        requires { in_order cells.now ≡ true }
+        ensures { Decides result ((i : ℕ) → row_sum E.algebra (filled E.algebra (map E.means self.now.values.now) (map E.means self.now.left.now) (map E.means self.now.right.now)) i (meant E.means cells.now) ≡ E.algebra.nought) }
+    {
+        let zero = E::zero();
+        let mut sum = zero;
+        let mut row = 0;
+        for cell in cells {
+            if cell.row != row {
+                if !sum.equal(zero) {
+                    return false;
+                }
+                sum = zero;
+                row = cell.row;
+            }
+            let x = self.entry(cell.column);
+            sum = sum.add(cell.weight.multiply(x));
+        }
+        sum.equal(zero)
+    }
 }
 
 // Whether each out is its left times its right.
@@ -61,10 +69,8 @@ pub fn products_hold<E: Ring>(left: &[E], right: &[E], out: &[E]) -> bool
     requires gated { length left.now ≡ length out.now }
     ensures { Decides result (hadamard E.algebra (map E.means left.now) (map E.means right.now) ≡ map E.means out.now) }
 {
-    for k in 0..out.len() {
-        if !out[k].equal(left[k].multiply(right[k])) {
-            return false;
-        }
-    }
-    true
+    left.iter()
+        .zip(right)
+        .zip(out)
+        .all(|((&left, &right), &out)| out.equal(left.multiply(right)))
 }

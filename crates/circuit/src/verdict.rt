@@ -5,8 +5,7 @@ ghost use Rattle.matrix.specs.Table.{matrix};
 ghost use Rattle.circuit.specs.Bulletproofs.{Holds, hadamard};
 ghost use Rattle.circuit.specs.Verdict.{Satisfied, system_of};
 
-use super::Circuit;
-use super::rows::rows_vanish;
+use super::{Circuit, Columns};
 use matrix::SparseMatrix;
 use refusal::Refusal;
 use ring::Ring;
@@ -16,15 +15,10 @@ impl Circuit {
     pub fn new<E>(committed: usize, weights: &SparseMatrix<'_, E>) -> Result<usize, Refusal>
         ensures { MatchResult result (λ n. weights.now.width ≡ 1 + committed + 3 * n) (λ e. (number_of e ≡ 17) × ((n : ℕ) → weights.now.width ≢ 1 + committed + 3 * n)) }
     {
-        let width = weights.width() as usize;
-        if width <= committed {
-            return Err(Refusal::Width);
+        match (weights.width() as usize).checked_sub(committed) {
+            Some(rest) if rest % 3 == 1 => Ok(rest / 3),
+            _ => Err(Refusal::Width),
         }
-        let rest = width - committed - 1;
-        if rest % 3 != 0 {
-            return Err(Refusal::Width);
-        }
-        Ok(rest / 3)
     }
 
     // Whether the columns satisfy the rows, with c committed values and n gates, out k being left k times right k.
@@ -32,20 +26,16 @@ impl Circuit {
         weights: &SparseMatrix<'_, E>,
         committed: usize,
         gates: usize,
-        values: &[E],
-        left: &[E],
-        right: &[E],
+        columns: &Columns<'_, E>,
     ) -> bool
-        ensures verdict { Decides result (Satisfied E.algebra (matrix E.means weights.now) committed gates (map E.means values.now) (map E.means left.now) (map E.means right.now)) }
-        ensures paper { Decides result ((weights.now.width ≤ 1 + committed + 3 * gates) × Holds E.algebra (system_of E.algebra (matrix E.means weights.now) committed gates) (map E.means values.now) (map E.means left.now) (map E.means right.now) (hadamard E.algebra (map E.means left.now) (map E.means right.now))) }
+        ensures verdict { Decides result (Satisfied E.algebra (matrix E.means weights.now) committed gates (map E.means columns.now.values.now) (map E.means columns.now.left.now) (map E.means columns.now.right.now)) }
+        ensures paper { Decides result ((weights.now.width ≤ 1 + committed + 3 * gates) × Holds E.algebra (system_of E.algebra (matrix E.means weights.now) committed gates) (map E.means columns.now.values.now) (map E.means columns.now.left.now) (map E.means columns.now.right.now) (hadamard E.algebra (map E.means columns.now.left.now) (map E.means columns.now.right.now))) }
     {
-        if values.len() != committed || left.len() != gates || right.len() != gates {
-            return false;
-        }
-        if !fits(weights.width(), committed, gates) {
-            return false;
-        }
-        rows_vanish(weights.cells(), values, left, right)
+        columns.values.len() == committed
+            && columns.left.len() == gates
+            && columns.right.len() == gates
+            && fits(weights.width(), committed, gates)
+            && columns.rows_vanish(weights.cells())
     }
 }
 

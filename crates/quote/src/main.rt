@@ -2,7 +2,7 @@
 // second of two dates on one curve point, and the same columns without that slot's tie.
 #![tactic(auto)]
 
-use circuit::Circuit;
+use circuit::{Circuit, Columns};
 use matrix::{Cell, SparseMatrix};
 use refusal::Refusal;
 use residue::Residue;
@@ -95,7 +95,12 @@ fn show_verdict(
     show_list(rt, "left", left)?;
     show_list(rt, "right", &zeros)?;
     show_list(rt, "out", &zeros)?;
-    let verdict = Circuit::is_satisfied(rows, SLOTS, GATES, values, left, &zeros);
+    let columns = Columns {
+        values,
+        left,
+        right: &zeros,
+    };
+    let verdict = Circuit::is_satisfied(rows, SLOTS, GATES, &columns);
     println!(rt; "  verdict: {}", if verdict { "yes" } else { "no" })
 }
 

@@ -2,9 +2,9 @@ use Rattle.std.proofs.Common.{map}
 use Rattle.matrix.specs.Cells.{meant}
 use Rattle.circuit.specs.Verdict.{filled}
 use Rattle.circuit.proofs.Running.{Progress}
-use Rattle.circuit.proofs.rows.rows_vanish.Given as goal
+use Rattle.circuit.proofs.Columns.rows_vanish.Given as goal
 
 abbrev pub invariant-loop-cell : goal.invariant-loop-cell
 invariant-loop-cell g l =
     let m = g.E.Ring in
-    Progress m.algebra (filled m.algebra (map m.means l.values) (map m.means l.left) (map m.means l.right)) (meant m.means l.cells) l.cell-index l.row (m.means l.sum)
+    Progress m.algebra (filled m.algebra (map m.means l.self.values.now) (map m.means l.self.left.now) (map m.means l.self.right.now)) (meant m.means l.cells) l.cell-index l.row (m.means l.sum)

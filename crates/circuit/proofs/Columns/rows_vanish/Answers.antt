@@ -6,8 +6,8 @@ use Rattle.matrix.specs.Cells.{cell, meant, entry}
 use Rattle.matrix.proofs.Order.{order_holds, order_meant}
 use Rattle.circuit.specs.Verdict.{filled}
 use Rattle.circuit.proofs.Running.{moved, start, same_row, new_row, fails, ends, cell_at}
-use Rattle.circuit.proofs.rows.rows_vanish.Goals as goal
-use Rattle.circuit.proofs.rows.rows_vanish.Goals.{then-cell-row+else-not-equal, else-cell-row}
+use Rattle.circuit.proofs.Columns.rows_vanish.Goals as goal
+use Rattle.circuit.proofs.Columns.rows_vanish.Goals.{then-cell-row+else-not-equal, else-cell-row}
 
 pub loop-cell-init : goal.loop-cell-init
 loop-cell-init g c = start g.E.Ring.algebra _ _ _ c.zero-zero.ensures
@@ -17,7 +17,7 @@ loop-cell-preserved g c =
     let m = g.E.Ring in
     let a = c.args in
     let A = m.algebra in
-    let list = filled A (map m.means a.values.now) (map m.means a.left.now) (map m.means a.right.now) in
+    let list = filled A (map m.means a.self.now.values.now) (map m.means a.self.now.left.now) (map m.means a.self.now.right.now) in
     let xs = meant m.means a.cells.now in
     let order = order_holds (meant m.means a.cells.now) (order_meant m.means a.cells.now ∙ c.requires) in
     let x = c.cell-item.result in
@@ -25,7 +25,7 @@ loop-cell-preserved g c =
     let at = cell_at m.means a.cells.now c.loop-cell.cell-index x (omega arith) c.cell-item.is in
     let term = A.times (m.means x.weight) (entry A list x.column) in
     let added : m.means c.add-sum.result ≡ A.plus (m.means c.if-cell-row.sum) term =
-    c.add-sum.ensures ∙ ap (A.plus (m.means c.if-cell-row.sum)) (c.multiply.ensures ∙ ap (A.times (m.means x.weight)) c.column-x.ensures) in
+    c.add-sum.ensures ∙ ap (A.plus (m.means c.if-cell-row.sum)) (c.multiply.ensures ∙ ap (A.times (m.means x.weight)) c.entry-x.ensures) in
     let z = c.zero-zero.ensures in
     elim c.if-cell-row.branch [
       | then-cell-row+else-not-equal w ↦
@@ -42,7 +42,7 @@ returns-then-not-equal g c =
     let m = g.E.Ring in
     let a = c.args in
     let A = m.algebra in
-    let list = filled A (map m.means a.values.now) (map m.means a.left.now) (map m.means a.right.now) in
+    let list = filled A (map m.means a.self.now.values.now) (map m.means a.self.now.left.now) (map m.means a.self.now.right.now) in
     let order = order_holds (meant m.means a.cells.now) (order_meant m.means a.cells.now ∙ c.requires) in
     let x = c.cell-item.result in
     let at = cell_at m.means a.cells.now c.loop-cell.cell-index x (omega arith) c.cell-item.is in (
@@ -56,6 +56,6 @@ returns g c =
     let m = g.E.Ring in
     let a = c.args in
     let A = m.algebra in
-    let list = filled A (map m.means a.values.now) (map m.means a.left.now) (map m.means a.right.now) in
+    let list = filled A (map m.means a.self.now.values.now) (map m.means a.self.now.left.now) (map m.means a.self.now.right.now) in
     ends A list (meant m.means a.cells.now) c.loop-cell.cell-index c.loop-cell.row _ c.equal-2.result c.loop-cell.invariant (simp length-map (omega arith))
     (λ yes'. c.equal-2.ensures.yes yes' ∙ c.zero-zero.ensures, λ none. c.equal-2.ensures.no (none ∙ sym c.zero-zero.ensures))

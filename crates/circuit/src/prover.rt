@@ -6,7 +6,7 @@ ghost use Rattle.circuit.specs.Bulletproofs.{Holds, hadamard};
 ghost use Rattle.circuit.specs.Verdict.{Satisfied, system_of};
 
 use super::rows::products_hold;
-use super::{Circuit, Witness};
+use super::{Circuit, Columns, Witness};
 use matrix::SparseMatrix;
 use refusal::Refusal;
 use ring::Ring;
@@ -49,9 +49,12 @@ impl<'a, E: Ring> Witness<'a, E> {
         ensures verdict { Decides result (Satisfied E.algebra (matrix E.means weights.now) committed gates (map E.means self.now.values.now) (map E.means self.now.left.now) (map E.means self.now.right.now) × (hadamard E.algebra (map E.means self.now.left.now) (map E.means self.now.right.now) ≡ map E.means self.now.out.now)) }
         ensures paper { Decides result ((weights.now.width ≤ 1 + committed + 3 * gates) × Holds E.algebra (system_of E.algebra (matrix E.means weights.now) committed gates) (map E.means self.now.values.now) (map E.means self.now.left.now) (map E.means self.now.right.now) (map E.means self.now.out.now)) }
     {
-        let (left, right) = (self.left, self.right);
-        let values = self.values;
-        Circuit::is_satisfied(weights, committed, gates, values, left, right)
-            && products_hold(left, right, self.out)
+        let columns = Columns {
+            values: self.values,
+            left: self.left,
+            right: self.right,
+        };
+        Circuit::is_satisfied(weights, committed, gates, &columns)
+            && products_hold(self.left, self.right, self.out)
     }
 }
