@@ -1,7 +1,6 @@
 -- One running sum over cells in order decides whether each row's sum is zero.
 use Rattle.std.proofs.Common.{◌≡◌, ℕ, zero, suc, ◌+◌, ◌<◌, ◌≤◌, Bool, List, [], ◌∷◌, ◌++◌, length, get_or, take, drop, Decides, sym, refl, ap, ◌∙◌, subst, inl, inr, arith}
-use lib.ListN.{length-map}
-use Rattle.std.proofs.lemmas.List.{take_more, drop_more, take-append-drop, take_all, get_or-map}
+use Rattle.std.proofs.lemmas.List.{length-map, take_more, drop_more, take-append-drop, take_all, get_or-map}
 use Rattle.std.proofs.lemmas.Bool.{cases_eq}
 use Rattle.std.proofs.lemmas.Bool.Decides.{nat_tests}
 use Rattle.ring.specs.Algebra.{RingOn}

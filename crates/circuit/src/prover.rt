@@ -1,5 +1,5 @@
 // A prover's columns.
-ghost use Rattle.std.specs.Prelude.{◌≡◌, ℕ, ◌+◌, ◌*◌, ◌≤◌, map, length, Decides, MatchResult};
+ghost use Rattle.std.specs.Prelude.{◌≡◌, ◌+◌, ◌*◌, ◌≤◌, map, length, Decides, MatchResult};
 ghost use Rattle.refusal.specs.Number.{number_of};
 ghost use Rattle.matrix.specs.Table.{matrix};
 ghost use Rattle.circuit.specs.Bulletproofs.{Holds, hadamard};

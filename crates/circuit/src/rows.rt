@@ -1,5 +1,5 @@
 // The rows' sums over columns that are not written out.
-ghost use Rattle.std.specs.Prelude.{◌≡◌, ℕ, ◌<◌, true, map, length, Decides};
+ghost use Rattle.std.specs.Prelude.{◌≡◌, ℕ, true, map, length, Decides};
 ghost use Rattle.matrix.specs.Cells.{in_order, meant, entry, row_sum};
 ghost use Rattle.circuit.specs.Bulletproofs.{hadamard};
 ghost use Rattle.circuit.specs.Verdict.{filled};

@@ -1,8 +1,7 @@
 -- The sums of rows, cell by cell.
 use Rattle.std.proofs.Common.{◌≡◌, ℕ, zero, suc, ◌+◌, ◌<◌, ◌≤◌, true, cond, ◌&&◌, eqb, ltb, ◌≢◌, List, [], ◌∷◌, ◌++◌, map, length, get_or, take, set, sym, refl, ap, ◌∙◌, subst, inl, inr, arith, length-set, get_or-set_other, get_or-set_same}
-use lib.ListN.{length-map}
 use Rattle.std.proofs.lemmas.List.FromFn.{fill_by_all}
-use Rattle.std.proofs.lemmas.List.{map-append, take_more, take_all, get_or-map, get_or_past}
+use Rattle.std.proofs.lemmas.List.{length-map, map-append, take_more, take_all, get_or-map, get_or_past}
 use Rattle.std.proofs.lemmas.Bool.{and_parts, ltb-true, cases_eq, cond-true, cond-false, eq-eqb, ne_eqb}
 use Rattle.ring.specs.Algebra.{RingOn}
 use Rattle.ring.proofs.Laws.{nought_plus, times_nought}

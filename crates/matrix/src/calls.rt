@@ -1,8 +1,8 @@
 // The calls that make and change a matrix, and its product with a list.
-ghost use Rattle.std.specs.Prelude.{◌≡◌, ℕ, ◌<◌, cond, map, length, take, drop, MatchResult, OnErr, OnOk, ◌≢◌};
+ghost use Rattle.std.specs.Prelude.{◌≡◌, ◌<◌, map, length, take, drop, MatchResult, OnErr, OnOk, ◌≢◌};
 ghost use Rattle.refusal.specs.Outcome.{outcome};
 ghost use Rattle.refusal.specs.Number.{number_of};
-ghost use Rattle.matrix.specs.Cells.{same_place, covers, weight_at, meant, product, row_sum, entry};
+ghost use Rattle.matrix.specs.Cells.{product};
 ghost use Rattle.matrix.specs.Laws.{WeightThrough, SumsGrow};
 ghost use Rattle.matrix.specs.Matrix.{empty, padded, added, assigned, limit};
 ghost use Rattle.matrix.specs.Places.{Place};

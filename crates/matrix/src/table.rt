@@ -1,13 +1,14 @@
 // A write to the cells of a lent table, of which the first `count` are in order.
-ghost use Rattle.std.specs.Prelude.{◌≡◌, ◌+◌, ◌≤◌, true, ◌||◌, length, take, drop, is_ok, MatchResult, nat_lt};
-ghost use Rattle.matrix.specs.Cells.{in_order, meant, present, changed};
+ghost use Rattle.std.specs.Prelude.{◌≡◌, ◌≤◌, true, ◌||◌, length, take, is_ok, MatchResult, nat_lt};
+ghost use Rattle.matrix.specs.Cells.{in_order, meant, present};
 ghost use Rattle.matrix.specs.Places.{Place, Written};
 
 use super::Cell;
 use refusal::Refusal;
 use ring::Ring;
 
-// Puts a cell at its place, and answers the new count.
+// Puts a cell at its place, and answers the new count. It takes a matrix's fields, which are no matrix's until
+// the count and the sizes follow.
 pub fn write<E: Ring>(
     cells: &mut [Cell<E>],
     count: usize,

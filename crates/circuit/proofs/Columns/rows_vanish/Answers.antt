@@ -1,5 +1,5 @@
 use Rattle.std.proofs.Common.{◌≡◌, map, sym, ap, ◌∙◌, arith}
-use lib.ListN.{length-map}
+use Rattle.std.proofs.lemmas.List.{length-map}
 use Rattle.std.proofs.lemmas.Bool.{both_ways, false≢true}
 use Rattle.matrix.specs.declared.Cell.{Cell}
 use Rattle.matrix.specs.Cells.{cell, meant, entry}

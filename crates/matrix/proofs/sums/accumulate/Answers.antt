@@ -1,6 +1,7 @@
-use Rattle.std.proofs.Common.{◌≡◌, ◌+◌, map, length, get_or, sym, ap, ◌∙◌, subst, arith, rules}
-use lib.ListN.{length-map}
-use Rattle.std.proofs.lemmas.List.{get_or-map}
+use Rattle.std.proofs.Common.{◌≡◌, ◌+◌, ◌<◌, ◌≤◌, ltb-true, map, length, get_or, sym, ap, ◌∙◌, subst, arith, rules}
+use Rattle.std.proofs.lemmas.Grind.{common_steps}
+use Rattle.std.proofs.lemmas.List.{length-map, get_or-map, get_or_default}
+use Rattle.matrix.specs.Cells.{entry}
 use Rattle.matrix.proofs.Filled.{filled}
 use Rattle.matrix.proofs.RowSums.{Summed, row_within, skipped, summed, all_summed}
 use Rattle.matrix.proofs.sums.accumulate.Goals as goal
@@ -9,8 +10,14 @@ use Rattle.matrix.proofs.sums.accumulate.Goals.{in-Some, in_default}
 pub loop-cell-init : goal.loop-cell-init
 loop-cell-init g c = let r = g.E.Ring in filled _ (λ x. r.means x ≡ r.algebra.nought) (λ p x q called. search rules) _ _ _ c.fill_with.ensures.ran.1
 
-pub raise-requires : goal.raise-requires
-raise-requires g c =
+pub offset_bounds-res-cell : goal.offset_bounds-res-cell
+offset_bounds-res-cell g c =
+    let row = row_within (length c.args.res.now) c.requires.0 c.args.cells.now c.loop-cell.cell-index c.cell-item.result c.requires.1 (omega arith) c.cell-item.is in
+    let under : c.cell-item.result.row < length c.loop-cell.res = omega arith in
+    search rules
+
+pub bounds-res-cell : goal.bounds-res-cell
+bounds-res-cell g c =
     let row = row_within (length c.args.res.now) c.requires.0 c.args.cells.now c.loop-cell.cell-index c.cell-item.result c.requires.1 (omega arith) c.cell-item.is in
     omega arith
 
@@ -21,19 +28,22 @@ loop-cell-preserved g c =
     let x = c.cell-item.result in
     let k = c.loop-cell.cell-index in
     let list = map r.means a.list.now in
-    let long = length-map a.list.now r.means in
     let row = row_within (length a.res.now) c.requires.0 a.cells.now k x c.requires.1 (omega arith) c.cell-item.is in
-    elim c.match-entry.branch [
+    elim c.match-get.branch [
       | in-Some w ↦
-          let found = w.in-Some.ensures in
-          let raised = w.raise.ensures in
-          let column = sym (get_or-map r.means a.list.now x.column w.in-Some.value r.algebra.nought found.0 ∙ ap r.means (sym found.1)) in
-          let is = raised.2 ∙ ap (r.algebra.plus (r.means (get_or c.loop-cell.res x.row raised.0))) (w.multiply.ensures ∙ ap (r.algebra.times (r.means x.weight)) column) in
-          subst (Summed r.algebra list r.means a.cells.now (k + 1)) (sym (w.res-is ∙ raised.1))
-          (summed r.algebra list r.means a.cells.now k c.loop-cell.res c.loop-cell.invariant x (omega arith) c.cell-item.is raised.0 (omega arith) is)
-      | in_default w ↦
+          let value = w.in-Some.field-0.now in
+          let lt : x.column < length a.list.now = ltb-true _ _ (sym w.in-Some.ensures.lookup.0) in
+          let read : value ≡ get_or a.list.now x.column value = w.in-Some.ensures.lookup.1 in
+          let entry_is = sym (get_or-map r.means a.list.now x.column value r.algebra.nought lt ∙ ap r.means (sym read)) in
+          let sum = get_or c.loop-cell.res x.row w.index-res-cell.result in
+          let same : sum ≡ get_or c.loop-cell.res x.row w.add.result = get_or_default c.loop-cell.res x.row w.index-res-cell.result w.add.result (omega arith) in
+          let is = w.add.ensures ∙ ap (r.algebra.plus (r.means sum)) (w.multiply.ensures ∙ ap (r.algebra.times (r.means x.weight)) entry_is) ∙ ap (λ y. r.algebra.plus (r.means y) (r.algebra.times (r.means x.weight) (entry r.algebra list x.column))) same in
           subst (Summed r.algebra list r.means a.cells.now (k + 1)) (sym w.res-is)
-          (skipped r.algebra list r.means a.cells.now k c.loop-cell.res c.loop-cell.invariant x (omega arith) c.cell-item.is (omega (arith, w.in_default.ensures)))
+          (summed r.algebra list r.means a.cells.now k c.loop-cell.res c.loop-cell.invariant x (omega arith) c.cell-item.is w.add.result (omega arith) is)
+      | in_default w ↦
+          let past : length a.list.now ≤ x.column = grind (arith, common_steps, w.in_default.ensures.lookup) in
+          subst (Summed r.algebra list r.means a.cells.now (k + 1)) (sym w.res-is)
+          (skipped r.algebra list r.means a.cells.now k c.loop-cell.res c.loop-cell.invariant x (omega arith) c.cell-item.is (simp length-map past))
     ]
 
 pub returns : goal.returns
