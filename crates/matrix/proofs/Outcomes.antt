@@ -1,4 +1,4 @@
--- What `touched` comes to: accepted, or refused with 16 or 15; and what an accepted change is.
+-- What setting the weight that a change would make is, and what an accepted change is to the weights and the sums of rows.
 use Rattle.std.proofs.Common.{◌≡◌, ℕ, ◌+◌, cond, ◌&&◌, ◌||◌, ltb, length, IfOk, Ok, Err, Result, ap, ◌∙◌, inl, inr, arith}
 use Rattle.std.proofs.lemmas.Bool.{cases_Bool, cond-true, cond-false}
 use Rattle.refusal.specs.declared.Refusal.{Refusal}

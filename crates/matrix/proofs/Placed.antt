@@ -22,11 +22,13 @@ pub cover_kept : {E M : Type 0} (R : RingOn M) (means : E → M) (r c h w g v : 
 cover_kept R means r c h w g v f cs ds s is tall wide =
     sym (covers_meant means g v ds) ∙ ap (covers g v) is ∙ rw (tall, wide) (covers_changed R r c f h w (meant means cs) (covers_meant means h w cs ∙ s))
 
+-- cells that come after a place do so one by one
 later_at : {E : Type 0} (i j : ℕ) (cs : List (Cell E)) (p : ℕ) (d : Cell E) → AllLater i j cs → p < length cs → Later i j (get_or cs p d).row (get_or cs p d).column
 later_at i j [] p d h lt = absurd (omega arith)
 later_at i j (x ∷ cs) zero d h lt = h.0
 later_at i j (x ∷ cs) (suc p) d h lt = later_at i j cs p d h.1 (omega arith)
 
+-- a cell's row and column, as a pair, against row r and column c
 module _ (r c : ℕ) where
   abbrev pub compared : {E : Type 0} → Cell E → Ordering
   compared x = ordering_then (nat_cmp x.row r) (nat_cmp x.column c)
