@@ -2,6 +2,7 @@
 // second of two dates on one curve point, and the same columns without that slot's tie.
 #![tactic(auto)]
 
+use builder::{Open, Role};
 use circuit::{Circuit, Columns};
 use matrix::{Cell, SparseMatrix};
 use refusal::Refusal;
@@ -44,6 +45,21 @@ const WIDTH: u32 = 10;
 
 fn native(x: u32) -> Var<Residue> {
     Var::Native(Residue::new(x))
+}
+
+// Asserts that the flows times their factors sum to the price.
+fn assert_price<R, T>(
+    open: &mut Open<R>,
+    tables: &mut T,
+    products: [Var<Residue>; 3],
+    price: u32,
+) -> Result<(), Refusal>
+where
+    R: Role<Residue, T>,
+{
+    let sum = open.add(tables, products[0], products[1])?;
+    let total = open.add(tables, sum, products[2])?;
+    open.assert_equal(tables, total, native(price))
 }
 
 // The price, as the flows times the factors: the first two dates share the first slot's factor.

@@ -1,12 +1,12 @@
 // The quote's worksheet, as a prover builds it.
 use super::show::show_new;
-use super::{CAPACITY, native};
-use prover::{Open, Values};
-use refusal::Refusal;
+use super::{CAPACITY, assert_price, native};
+use builder::{Open, Tables};
+use prover::{Ledger, Prover, Values, Witnesses};
 use residue::Residue;
 use ring::Ring;
 use std::io;
-use worksheet::{CircuitIdx, CircuitNode, Counts, Var};
+use worksheet::{CircuitIdx, CircuitNode, Counts};
 
 // The values of the witnesses and nodes, and the verdict.
 fn show_values(rt: &impl Print, values: Values<'_, Residue>, counts: Counts) -> anyhow::Result<()> {
@@ -26,58 +26,6 @@ fn show_values(rt: &impl Print, values: Values<'_, Residue>, counts: Counts) -> 
     Ok(())
 }
 
-// The sum of the flows times their factors, asserted to be the price.
-fn assert_price(
-    open: &mut Open,
-    constants: &mut [Residue],
-    nodes: &mut [CircuitNode],
-    assertions: &mut [(CircuitIdx, CircuitIdx)],
-    values: &mut [Residue],
-    worked: &mut [Residue],
-    flows: [u32; 3],
-    factors: [Var<Residue>; 3],
-    price: u32,
-) -> Result<(), Refusal> {
-    let first = open.multiply(
-        constants,
-        nodes,
-        assertions,
-        values,
-        worked,
-        native(flows[0]),
-        factors[0],
-    )?;
-    let second = open.multiply(
-        constants,
-        nodes,
-        assertions,
-        values,
-        worked,
-        native(flows[1]),
-        factors[1],
-    )?;
-    let third = open.multiply(
-        constants,
-        nodes,
-        assertions,
-        values,
-        worked,
-        native(flows[2]),
-        factors[2],
-    )?;
-    let sum = open.add(constants, nodes, assertions, values, worked, first, second)?;
-    let total = open.add(constants, nodes, assertions, values, worked, sum, third)?;
-    open.assert_equal(
-        constants,
-        nodes,
-        assertions,
-        values,
-        worked,
-        total,
-        native(price),
-    )
-}
-
 pub fn build(
     rt: &impl Print,
     flows: [u32; 3],
@@ -90,49 +38,32 @@ pub fn build(
     let mut assertions = [(zero, zero); 1];
     let mut values = [Residue::zero(); 2];
     let mut worked = [Residue::zero(); 5];
-    let mut open = Open::new(CAPACITY)?;
+    let mut ledger = Ledger {
+        tables: Tables {
+            constants: &mut constants,
+            nodes: &mut nodes,
+            assertions: &mut assertions,
+        },
+        values: &mut values,
+        worked: &mut worked,
+    };
+    let mut open = Open::<Prover>::new(CAPACITY)?;
     let empty = open.counts();
-    let near = open.witness(
-        &mut constants,
-        &mut nodes,
-        &mut assertions,
-        &mut values,
-        &mut worked,
-        points[0],
-    )?;
-    let far = open.witness(
-        &mut constants,
-        &mut nodes,
-        &mut assertions,
-        &mut values,
-        &mut worked,
-        points[1],
-    )?;
-    show_new(rt, &constants, &nodes, &assertions, empty, open.counts())?;
+    let near = open.witness(&mut ledger, points[0])?;
+    let far = open.witness(&mut ledger, points[1])?;
+    show_new(rt, &ledger.tables, empty, open.counts())?;
     let was = open.counts();
-    assert_price(
-        &mut open,
-        &mut constants,
-        &mut nodes,
-        &mut assertions,
-        &mut values,
-        &mut worked,
-        flows,
-        [near, near, far],
-        price,
-    )?;
-    show_new(rt, &constants, &nodes, &assertions, was, open.counts())?;
-    if let Err(refusal) = open.witness(
-        &mut constants,
-        &mut nodes,
-        &mut assertions,
-        &mut values,
-        &mut worked,
-        points[0],
-    ) {
+    let products = [
+        open.multiply(&mut ledger, native(flows[0]), near)?,
+        open.multiply(&mut ledger, native(flows[1]), near)?,
+        open.multiply(&mut ledger, native(flows[2]), far)?,
+    ];
+    assert_price(&mut open, &mut ledger, products, price)?;
+    show_new(rt, &ledger.tables, was, open.counts())?;
+    if let Err(refusal) = open.witness(&mut ledger, points[0]) {
         println!(rt; "  one witness more is {refusal}")?;
     }
     let sealed = open.seal();
-    let view = sealed.values(&constants, &nodes, &assertions, &values, &worked)?;
+    let view = Values::of(&sealed, &constants, &nodes, &assertions, &values, &worked)?;
     show_values(rt, view, sealed.counts())
 }

@@ -1,34 +1,38 @@
 // The entries of a worksheet, printed.
+use builder::Tables;
 use residue::Residue;
 use std::io;
-use worksheet::{CircuitIdx, CircuitNode, Counts};
+use worksheet::Counts;
 
 // What stands in the tables past the counts `was`, up to the counts `is`.
 pub fn show_new(
     rt: &impl Print,
-    constants: &[Residue],
-    nodes: &[CircuitNode],
-    assertions: &[(CircuitIdx, CircuitIdx)],
+    tables: &Tables<'_, Residue>,
     was: Counts,
     is: Counts,
 ) -> io::Result<()> {
     for w in was.witnesses..is.witnesses {
         println!(rt; "  witness {w}")?;
     }
-    for (k, x) in constants.iter().enumerate() {
-        if was.constants as usize <= k && k < is.constants as usize {
-            println!(rt; "  constant {k}: {x}")?;
-        }
+    let constants = tables
+        .constants
+        .iter()
+        .enumerate()
+        .take(is.constants as usize);
+    for (k, x) in constants.skip(was.constants as usize) {
+        println!(rt; "  constant {k}: {x}")?;
     }
-    for (n, node) in nodes.iter().enumerate() {
-        if was.nodes as usize <= n && n < is.nodes as usize {
-            println!(rt; "  node {n}: {node}")?;
-        }
+    let nodes = tables.nodes.iter().enumerate().take(is.nodes as usize);
+    for (n, node) in nodes.skip(was.nodes as usize) {
+        println!(rt; "  node {n}: {node}")?;
     }
-    for (j, (a, b)) in assertions.iter().enumerate() {
-        if was.assertions as usize <= j && j < is.assertions as usize {
-            println!(rt; "  assertion {j}: {a} = {b}")?;
-        }
+    let assertions = tables
+        .assertions
+        .iter()
+        .enumerate()
+        .take(is.assertions as usize);
+    for (j, (a, b)) in assertions.skip(was.assertions as usize) {
+        println!(rt; "  assertion {j}: {a} = {b}")?;
     }
     Ok(())
 }
