@@ -38,7 +38,8 @@ impl Builder {
     }
 
     // Refuses a call on tables of which some are short, that names an id that is absent, that asserts
-    // unequal natives equal, or that would append more than there is room for.
+    // unequal natives equal, or that would append more than there is room for. The first three are found before
+    // any is acted on, since a contract speaks of the natives' comparison whatever else is refused.
     pub(super) fn admit(
         &self,
         short: bool,

@@ -13,7 +13,8 @@ pub enum Kind {
     Other,
 }
 
-// What a call appends, and the kind of its answer.
+// What a call appends, and the kind of its answer. Each cost has a bound of its own (`few`), from which that of a
+// sum follows, so none of them is a fact of the type.
 #[derive(Clone, Copy)]
 pub struct Cost {
     pub counts: Counts,

@@ -21,7 +21,7 @@ mod writing;
 pub use boolean::bit;
 pub use roles::Role;
 
-// How much of its tables a worksheet has filled.
+// How much of its tables a worksheet has filled. The caller lends them at each call, so the counts stand apart.
 #[derive(Drop)]
 pub struct Builder {
     capacity: Counts,

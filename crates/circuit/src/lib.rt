@@ -21,12 +21,10 @@ pub struct Columns<'a, E> {
 // A prover's columns, with the blinding of the committed values.
 #[derive(Drop)]
 pub struct Witness<'a, E> {
-    values: &'a [E],
+    columns: Columns<'a, E>,
     blinding: &'a [E],
-    left: &'a [E],
-    right: &'a [E],
     out: &'a [E],
-    ghost blinded: { length values.now ≡ length blinding.now },
-    ghost paired: { length left.now ≡ length right.now },
-    ghost gated: { length left.now ≡ length out.now },
+    ghost blinded: { length columns.values.now ≡ length blinding.now },
+    ghost paired: { length columns.left.now ≡ length columns.right.now },
+    ghost gated: { length columns.left.now ≡ length out.now },
 }

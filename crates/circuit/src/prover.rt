@@ -19,24 +19,26 @@ impl<'a, E: Ring> Witness<'a, E> {
         right: &'a [E],
         out: &'a [E],
     ) -> Result<Witness<'a, E>, Refusal>
-        ensures { MatchResult result (λ w. (w.values.now ≡ values.now) × (w.blinding.now ≡ blinding.now) × (w.left.now ≡ left.now) × (w.right.now ≡ right.now) × (w.out.now ≡ out.now)) (λ e. (number_of e ≡ 18) × ((length values.now ≡ length blinding.now) × (length left.now ≡ length right.now) × (length left.now ≡ length out.now) → ⊥)) }
+        ensures { MatchResult result (λ w. (w.columns.values.now ≡ values.now) × (w.blinding.now ≡ blinding.now) × (w.columns.left.now ≡ left.now) × (w.columns.right.now ≡ right.now) × (w.out.now ≡ out.now)) (λ e. (number_of e ≡ 18) × ((length values.now ≡ length blinding.now) × (length left.now ≡ length right.now) × (length left.now ≡ length out.now) → ⊥)) }
     {
         if values.len() != blinding.len() || left.len() != right.len() || left.len() != out.len() {
             return Err(Refusal::Length);
         }
         Ok(Witness {
-            values,
+            columns: Columns {
+                values,
+                left,
+                right,
+            },
             blinding,
-            left,
-            right,
             out,
         })
     }
 
     pub fn values(&self) -> &'a [E]
-        ensures { result.now ≡ self.now.values.now }
+        ensures { result.now ≡ self.now.columns.values.now }
     {
-        self.values
+        self.columns.values
     }
 
     // Whether the columns satisfy the rows, and each out is its left times its right.
@@ -46,15 +48,10 @@ impl<'a, E: Ring> Witness<'a, E> {
         committed: usize,
         gates: usize,
     ) -> bool
-        ensures verdict { Decides result (Satisfied E.algebra (matrix E.means weights.now) committed gates (map E.means self.now.values.now) (map E.means self.now.left.now) (map E.means self.now.right.now) × (hadamard E.algebra (map E.means self.now.left.now) (map E.means self.now.right.now) ≡ map E.means self.now.out.now)) }
-        ensures paper { Decides result ((weights.now.width ≤ 1 + committed + 3 * gates) × Holds E.algebra (system_of E.algebra (matrix E.means weights.now) committed gates) (map E.means self.now.values.now) (map E.means self.now.left.now) (map E.means self.now.right.now) (map E.means self.now.out.now)) }
+        ensures verdict { Decides result (Satisfied E.algebra (matrix E.means weights.now) committed gates (map E.means self.now.columns.values.now) (map E.means self.now.columns.left.now) (map E.means self.now.columns.right.now) × (hadamard E.algebra (map E.means self.now.columns.left.now) (map E.means self.now.columns.right.now) ≡ map E.means self.now.out.now)) }
+        ensures paper { Decides result ((weights.now.width ≤ 1 + committed + 3 * gates) × Holds E.algebra (system_of E.algebra (matrix E.means weights.now) committed gates) (map E.means self.now.columns.values.now) (map E.means self.now.columns.left.now) (map E.means self.now.columns.right.now) (map E.means self.now.out.now)) }
     {
-        let columns = Columns {
-            values: self.values,
-            left: self.left,
-            right: self.right,
-        };
-        Circuit::is_satisfied(weights, committed, gates, &columns)
-            && products_hold(self.left, self.right, self.out)
+        Circuit::is_satisfied(weights, committed, gates, &self.columns)
+            && products_hold(self.columns.left, self.columns.right, self.out)
     }
 }

@@ -1,4 +1,5 @@
-// A ring of a licensee's own: the hours of a clock, which are the residues modulo 12.
+// A ring of a licensee's own: the hours of a clock, which are the residues modulo 12. It is written from `Ring`
+// alone, as a licensee's is, and shares no code with the library's residues.
 #![tactic(auto)]
 
 ghost use Rattle.std.specs.Prelude.{◌≡◌, ◌%◌, ◌<◌};

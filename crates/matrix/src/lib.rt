@@ -18,6 +18,7 @@ pub struct Cell<E> {
 }
 
 // The first `count` cells of the table are the matrix's, in rising row, then column, each at most once.
+// The caller lends the table, so its count stands beside it: nothing here allocates.
 #[derive(Drop)]
 pub struct SparseMatrix<'a, E> {
     cells: &'a mut [Cell<E>],

@@ -17,7 +17,8 @@ use ring::Ring;
 use worksheet::{CircuitIdx, CircuitNode, Counts, Var};
 
 impl<'a, E: Ring> Values<'a, E> {
-    // The values that the tables of a sealed worksheet hold.
+    // The values that the tables of a sealed worksheet hold. The tables are lent to read, where a `Ledger` would ask
+    // for ones that may be written.
     pub fn of(
         sealed: &Sealed<Prover>,
         constants: &'a [E],

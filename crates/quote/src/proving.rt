@@ -8,7 +8,7 @@ use ring::Ring;
 use std::io;
 use worksheet::{CircuitIdx, CircuitNode, Counts};
 
-// The values of the witnesses and nodes, and the verdict.
+// The values of the witnesses and nodes, read by their ids, and the verdict.
 fn show_values(rt: &impl Print, values: Values<'_, Residue>, counts: Counts) -> anyhow::Result<()> {
     print!(rt; "  values: witnesses")?;
     for w in 0..counts.witnesses {

@@ -33,7 +33,7 @@ pub enum Refusal {
 }
 
 impl Refusal {
-    // The number by which the cause is documented.
+    // The number by which the cause is documented; no call takes or answers it in the cause's place.
     pub fn number(self) -> u8
         ensures { result ≡ number_of self }
     {

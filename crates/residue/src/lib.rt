@@ -1,4 +1,5 @@
-// The field of the residues modulo the prime 8,191.
+// The field of the residues modulo the prime 8,191. The modulus is no parameter: at 1 zero would be one, and a const
+// parameter has no bound.
 #![tactic(auto)]
 
 ghost use Rattle.std.specs.Prelude.{◌≡◌, ◌%◌, ◌<◌, T, Some, decimal};

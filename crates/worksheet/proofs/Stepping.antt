@@ -1,10 +1,8 @@
--- For proofs of code: when a call is accepted, and when it is refused.
+-- For proofs of code: when a call is accepted.
 use Rattle.std.proofs.Common.{◌≡◌, ℕ, ◌≤◌, Bool, true, false, cond, List, [], ◌∷◌, length, Some, None, Option, refl, ap, ◌∙◌}
 use Rattle.std.proofs.lemmas.Bool.{cond-false, le-ltb, not_from_true}
 use Rattle.ring.specs.Algebra.{RingOn}
-use Rattle.worksheet.specs.declared.Var.{Var}
-use Rattle.worksheet.specs.Runs.{Role, prover, verifier, Settled, native_square, assert_equal, boolean_assert, SameCall, same_assert_equal, same_boolean_assert, Call, Capacities, Worksheet, perform, operands, all_known, clashes, refusal, call_causes, step_by, step}
-use Rattle.worksheet.proofs.Alike.{causes_alike}
+use Rattle.worksheet.specs.Runs.{Role, Call, Capacities, Worksheet, perform, operands, all_known, clashes, refusal, call_causes, step_by, step}
 
 -- no cause of refusal holds
 abbrev pub Clear : List (Bool × ℕ) → Type 0
@@ -30,24 +28,3 @@ module _ {M : Type 0} (R : RingOn M) (r : Role) (cap : Capacities) (W : Workshee
       step R r cap W c ≡ step_by R r None W c
   accepts_step k e fits = ap (λ (o : Option ℕ). step_by R r o W c)
       (no_refusal (call_causes R cap W.sheet c) (not_from_true _ k, (e, (le-ltb _ _ fits.0, (le-ltb _ _ fits.1, (le-ltb _ _ fits.2, (le-ltb _ _ fits.3, tt)))))))
-
--- a step does not depend on which decision the call carries
-module _ {M : Type 0} (R : RingOn M) (cap : Capacities) where
-  step_alike : (r : Role) (W : Worksheet M r) (c b : Call R r) → SameCall c b → ((o : Option ℕ) → step_by R r o W c ≡ step_by R r o W b) → step R r cap W c ≡ step R r cap W b
-  step_alike r W c b k h = ap (λ (o : Option ℕ). step_by R r o W c) (ap refusal (causes_alike R cap W.sheet c b k)) ∙ h (refusal (call_causes R cap W.sheet b))
-
-  pub any_decision : (r : Role) (W : Worksheet M r) (x y : Var M) (d e : Settled x y) → step R r cap W (assert_equal x y d) ≡ step R r cap W (assert_equal x y e)
-  any_decision r W x y d e = step_alike r W (assert_equal x y d) (assert_equal x y e) (same_assert_equal x y d e) (go r W)
-    where
-      go : (r : Role) (W : Worksheet M r) (o : Option ℕ) → step_by R r o W (assert_equal x y d) ≡ step_by R r o W (assert_equal x y e)
-      go r W (Some n) = refl
-      go prover W None = refl
-      go verifier W None = refl
-
-  pub any_square : (r : Role) (W : Worksheet M r) (x : Var M) (d e : Settled (native_square R x) x) → step R r cap W (boolean_assert x d) ≡ step R r cap W (boolean_assert x e)
-  any_square r W x d e = step_alike r W (boolean_assert x d) (boolean_assert x e) (same_boolean_assert x d e) (go r W)
-    where
-      go : (r : Role) (W : Worksheet M r) (o : Option ℕ) → step_by R r o W (boolean_assert x d) ≡ step_by R r o W (boolean_assert x e)
-      go r W (Some n) = refl
-      go prover W None = refl
-      go verifier W None = refl

@@ -8,7 +8,7 @@ ghost use Rattle.worksheet.specs.Shown.{id_text, node_text};
 use ring::Ring;
 use std::fmt;
 
-// An id, by its number from 0.
+// An id, by its number from 0 in a table that the caller lends.
 #[derive(Clone, Copy, PartialEq, Eq)]
 pub enum CircuitIdx {
     Constant(u32),

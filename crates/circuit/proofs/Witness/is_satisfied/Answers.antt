@@ -11,4 +11,4 @@ returns-then-is_satisfied-clause-paper g c =
     let a = c.args in
     let m = a.weights.now in
     let xs = a.self.now in
-    decides_paper r.algebra (matrix r.means m) a.committed a.gates (map r.means xs.values.now) (map r.means xs.left.now) (map r.means xs.right.now) (map r.means xs.out.now) (ordered_cells r.means m) (covered_cells r.means m) c.products_hold.result (grind (arith, common_steps))
+    decides_paper r.algebra (matrix r.means m) a.committed a.gates (map r.means xs.columns.values.now) (map r.means xs.columns.left.now) (map r.means xs.columns.right.now) (map r.means xs.out.now) (ordered_cells r.means m) (covered_cells r.means m) c.products_hold.result (grind (arith, common_steps))
