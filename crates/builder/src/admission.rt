@@ -2,7 +2,7 @@
 ghost use Rattle.std.specs.Prelude.{◌≡◌, ◌+◌, ◌≤◌, ◌||◌, Some, None, MatchResult, nat_lt};
 ghost use Rattle.refusal.specs.Number.{number_of};
 ghost use Rattle.worksheet.specs.Runs.{refusal as first_refusal};
-ghost use Rattle.builder.specs.Admission.{causes, known_by};
+ghost use Rattle.builder.specs.Admission.{causes, known_by, known_id};
 ghost use Rattle.builder.specs.Called.{short};
 ghost use Rattle.builder.specs.Cost.{Few};
 
@@ -15,6 +15,17 @@ fn exceeds(capacity: u32, count: u32, more: u32) -> bool
     ensures { result ≡ nat_lt capacity (count + more) }
 {
     capacity < count + more
+}
+
+// Whether an id is below its count.
+pub fn has(counts: Counts, i: CircuitIdx) -> bool
+    ensures { result ≡ known_id counts i }
+{
+    match i {
+        CircuitIdx::Constant(k) => k < counts.constants,
+        CircuitIdx::Witness(w) => w < counts.witnesses,
+        CircuitIdx::Node(n) => n < counts.nodes,
+    }
 }
 
 impl Builder {
@@ -31,9 +42,7 @@ impl Builder {
     {
         match v {
             Var::Native(_) => true,
-            Var::Circuit(CircuitIdx::Constant(k)) => k < self.counts.constants,
-            Var::Circuit(CircuitIdx::Witness(w)) => w < self.counts.witnesses,
-            Var::Circuit(CircuitIdx::Node(n)) => n < self.counts.nodes,
+            Var::Circuit(i) => has(self.counts, i),
         }
     }
 

@@ -36,15 +36,17 @@ impl<E: Ring> BoolVar<E> {
     }
 }
 
-fn request_of<E: Copy>(request: BoolRequest<E>) -> Request<E>
-    ensures { result ≡ request_of request }
-{
-    match request {
-        BoolRequest::Witness => Request::BooleanWitness,
-        BoolRequest::Assert(a) => Request::BooleanAssert(a),
-        BoolRequest::Not(a) => Request::Not(a.var),
-        BoolRequest::And(a, b) => Request::And(a.var, b.var),
-        BoolRequest::Or(a, b) => Request::Or(a.var, b.var),
+impl<E: Copy> From<BoolRequest<E>> for Request<E> {
+    ghost from_gives = { λ b q. q ≡ request_of b };
+
+    fn from(request: BoolRequest<E>) -> Request<E> {
+        match request {
+            BoolRequest::Witness => Request::BooleanWitness,
+            BoolRequest::Assert(a) => Request::BooleanAssert(a),
+            BoolRequest::Not(a) => Request::Not(a.var),
+            BoolRequest::And(a, b) => Request::And(a.var, b.var),
+            BoolRequest::Or(a, b) => Request::Or(a.var, b.var),
+        }
     }
 }
 
@@ -63,7 +65,7 @@ impl<R> Open<R> {
         ensures stays { R.Stays self.old.builder self.new.builder tables.old tables.new }
         ensures written { R.Writes E.Member E.algebra E.means self.old.builder self.new.builder tables.old tables.new fresh (is_ok result) }
     {
-        let var = self.call(tables, request_of(request), fresh)?;
+        let var = self.call(tables, Request::from(request), fresh)?;
         Ok(BoolVar { var })
     }
 

@@ -21,21 +21,25 @@ pub struct Cost {
     pub kind: Kind,
 }
 
-pub fn kind_of_id(i: CircuitIdx) -> Kind
-    ensures { result ≡ kind_of_id i }
-{
-    match i {
-        CircuitIdx::Constant(_) => Kind::Constant,
-        CircuitIdx::Witness(_) | CircuitIdx::Node(_) => Kind::Other,
+impl From<CircuitIdx> for Kind {
+    ghost from_gives = { λ i k. k ≡ kind_of_id i };
+
+    fn from(i: CircuitIdx) -> Kind {
+        match i {
+            CircuitIdx::Constant(_) => Kind::Constant,
+            CircuitIdx::Witness(_) | CircuitIdx::Node(_) => Kind::Other,
+        }
     }
 }
 
-pub fn kind_of<E: Copy>(v: Var<E>) -> Kind
-    ensures { result ≡ kind_of v }
-{
-    match v {
-        Var::Native(_) => Kind::Native,
-        Var::Circuit(i) => kind_of_id(i),
+impl<E: Copy> From<Var<E>> for Kind {
+    ghost from_gives = { λ v k. k ≡ kind_of v };
+
+    fn from(v: Var<E>) -> Kind {
+        match v {
+            Var::Native(_) => Kind::Native,
+            Var::Circuit(i) => Kind::from(i),
+        }
     }
 }
 

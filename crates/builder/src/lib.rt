@@ -18,6 +18,7 @@ mod roles;
 mod sealing;
 mod writing;
 
+pub use admission::has;
 pub use boolean::bit;
 pub use roles::Role;
 

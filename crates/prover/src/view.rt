@@ -11,7 +11,7 @@ ghost use Rattle.builder.specs.Requests.{worth};
 ghost use Rattle.prover.specs.Book.{book, short, sheet_of, worksheet_in, read};
 
 use super::{Prover, Values};
-use builder::Sealed;
+use builder::{Sealed, has};
 use refusal::Refusal;
 use ring::Ring;
 use worksheet::{CircuitIdx, CircuitNode, Counts, Var};
@@ -99,17 +99,6 @@ impl<'a, E: Ring> Values<'a, E> {
             CircuitNode::Add(a, b) => self.value_of(a).add(self.value_of(b)),
             CircuitNode::Mul(a, b) => self.value_of(a).multiply(self.value_of(b)),
         }
-    }
-}
-
-// Whether an id is below its count.
-fn has(counts: Counts, id: CircuitIdx) -> bool
-    ensures { result ≡ known_id counts id }
-{
-    match id {
-        CircuitIdx::Constant(k) => k < counts.constants,
-        CircuitIdx::Witness(k) => k < counts.witnesses,
-        CircuitIdx::Node(k) => k < counts.nodes,
     }
 }
 

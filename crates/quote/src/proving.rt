@@ -11,14 +11,12 @@ use worksheet::{CircuitIdx, CircuitNode, Counts};
 // The values of the witnesses and nodes, read by their ids, and the verdict.
 fn show_values(rt: &impl Print, values: Values<'_, Residue>, counts: Counts) -> anyhow::Result<()> {
     print!(rt; "  values: witnesses")?;
-    for w in 0..counts.witnesses {
-        let x = values.get(CircuitIdx::Witness(w))?;
-        print!(rt; " {x}")?;
+    for id in (0..counts.witnesses).map(|w| CircuitIdx::Witness(w)) {
+        print!(rt; " {}", values.get(id)?)?;
     }
     print!(rt; ", nodes")?;
-    for n in 0..counts.nodes {
-        let x = values.get(CircuitIdx::Node(n))?;
-        print!(rt; " {x}")?;
+    for id in (0..counts.nodes).map(|n| CircuitIdx::Node(n)) {
+        print!(rt; " {}", values.get(id)?)?;
     }
     println!(rt; "")?;
     let verdict = values.is_satisfied();
