@@ -14,7 +14,7 @@ use super::{Prover, Values};
 use builder::{Sealed, has};
 use refusal::Refusal;
 use ring::Ring;
-use worksheet::{CircuitIdx, CircuitNode, Counts, Var};
+use worksheet::{CircuitIdx, CircuitNode, Var};
 
 impl<'a, E: Ring> Values<'a, E> {
     // The values that the tables of a sealed worksheet hold. The tables are lent to read, where a `Ledger` would ask

@@ -96,7 +96,11 @@ mod tests {
         assert_eq!(rt; number(open.witness(&mut tables)), 2);
         assert_eq!(rt; number(open.add(&mut tables, id(C0), id(C0))), 2);
         let mut one = [(C0, C0)];
-        tables.assertions = &mut one;
+        let mut tables = Tables {
+            constants: &mut cs,
+            nodes: &mut ns,
+            assertions: &mut one,
+        };
         assert_eq!(rt; number(open.witness(&mut tables)), 0);
         let w = id(CircuitIdx::Witness(0));
         assert_eq!(rt; number(open.add(&mut tables, w, w)), 7);
