@@ -12,6 +12,7 @@ pub struct Bit {
 }
 
 impl Bit {
+    // Named as the other rings' elements are made.
     pub fn new(value: bool) -> Bit
         ensures { result.value ≡ value }
     {

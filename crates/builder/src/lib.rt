@@ -59,7 +59,8 @@ pub struct BoolVar<E> {
     var: Var<E>,
 }
 
-// A builder call as a value.
+// A builder call as a value. Its cost, operands and natives are asked for before it is written, where a closure could
+// only be run.
 #[derive(Clone, Copy)]
 pub enum Request<E> {
     Constant(E),
@@ -93,6 +94,7 @@ pub enum BoolRequest<E> {
     Or(BoolVar<E>, BoolVar<E>),
 }
 
+// What is done to two elements, and which node two ids make.
 #[derive(Clone, Copy)]
 enum Op {
     Add,

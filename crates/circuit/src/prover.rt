@@ -12,6 +12,7 @@ use refusal::Refusal;
 use ring::Ring;
 
 impl<'a, E: Ring> Witness<'a, E> {
+    // The one call that takes a witness's lists apart.
     pub fn new(
         values: &'a [E],
         blinding: &'a [E],

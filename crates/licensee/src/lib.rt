@@ -17,7 +17,7 @@ pub struct Hour {
 const HOURS: u8 = 12;
 
 impl Hour {
-    // The remainder of `number`.
+    // The remainder of `number`. Many numbers make one hour, so this is no `From`.
     pub fn new(number: u8) -> Hour
         ensures { result.value ≡ number % 12 }
     {

@@ -1,4 +1,4 @@
-// The calls that append witnesses, whose values a prover hands over or works out.
+// The calls that append witnesses, whose values a prover hands over or works out, so they are no calls of every role.
 ghost use Rattle.std.specs.Prelude.{◌≡◌, Some};
 ghost use Rattle.refusal.specs.Outcome.{outcome};
 ghost use Rattle.ring.specs.Algebra.{FieldOf};

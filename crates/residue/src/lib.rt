@@ -23,7 +23,7 @@ pub struct Residue {
 const MODULUS: u32 = 8191;
 
 impl Residue {
-    // The remainder of `number`.
+    // The remainder of `number`. Many numbers make one residue, so this is no `From`.
     pub fn new(number: u32) -> Residue
         ensures { result.value ≡ number % 8191 }
     {

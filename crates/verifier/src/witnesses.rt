@@ -1,4 +1,5 @@
-// The calls that append witnesses, which a verifier only counts.
+// The calls that append witnesses, which a verifier only counts: they take no value, and a quotient of an id is the
+// same whatever the field's inverses are, so they are no calls of every role.
 ghost use Rattle.std.specs.Prelude.{◌≡◌, Some, false};
 ghost use Rattle.refusal.specs.Outcome.{outcome};
 ghost use Rattle.worksheet.specs.Calls.{var_means};

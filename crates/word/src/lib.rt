@@ -13,6 +13,7 @@ pub struct Word {
 }
 
 impl Word {
+    // Named as the other rings' elements are made.
     pub fn new(value: u64) -> Word
         ensures { result.value ≡ value }
     {
