@@ -116,3 +116,9 @@ pub grew_id_on : {E M : Type 0} (means : E → M) (a b c : Draft E) (n : Cost) (
 grew_id_on means a b c n m A F i j h e k =
     grew_on means a b c n.counts m A.0 (F A.0 j) h.grew
     (subst (λ (x : CircuitIdx). Grew means b c m (F A.0 x)) (same_id i j (h.answer ∙ e)) (subst (λ (S : Sheet _). Grew means b c m (F S i)) h.grew.sheet k))
+
+pub wrote_then : {E M : Type 0} {means : E → M} {a b c : Draft E} {n m : Cost} {A B : Answered M} {v w : Var E} → Wrote means a b n A v → Wrote means b c m B w → Wrote means a c (after n.counts m) B w
+wrote_then {E} {M} {means} {a} {b} {c} {n} {m} {A} {B} {v} {w} h k = record { grew = grew_on means a b c n.counts m.counts A.0 B.0 h.grew k.grew; answer = k.answer; kind = k.kind; there = k.there }
+
+pub grew_then : {E M : Type 0} {means : E → M} {a b c : Draft E} {n : Cost} {m : Counts} {A : Answered M} {T : Sheet M} {v : Var E} → Wrote means a b n A v → Grew means b c m T → Grew means a c (sum n.counts m) T
+grew_then {E} {M} {means} {a} {b} {c} {n} {m} {A} {T} {v} h k = grew_on means a b c n.counts m A.0 T h.grew k
