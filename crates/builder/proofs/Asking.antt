@@ -26,7 +26,7 @@ use Rattle.builder.specs.Requests.{vars, request_cost, performed, shown, OfStruc
 use Rattle.builder.specs.Tables.{sheet_in, AllThere, Room, Wrote}
 use Rattle.builder.specs.Within.{Within, sum}
 use Rattle.builder.proofs.Calling.{Asked, there_known, refused_call, operands_known, room, fits, accepted_call}
-use Rattle.builder.proofs.Sizes.{sizes, constant_sized, witness_sized, operate_sized, negate_sized, subtract_sized, assert_sized, quotient_sized, square_sized, either_sized, select_sized, sized_on}
+use Rattle.builder.proofs.Sizes.{sizes, constant_sized, witness_sized, operate_sized, negate_sized, subtract_sized, assert_sized, quotient_sized, square_sized, either_sized, select_sized, sized_then}
 
 kind_means : {E M : Type 0} (means : E → M) (v : Var E) → kind_of (var_means means v) ≡ kind_of v
 kind_means means (Native x) = refl
@@ -60,7 +60,7 @@ module _ {E M : Type 0} (R : RingOn M) (means : E → M) (S : Sheet M) where
   request_sized (AssertEqual a b) =
       assert_sized S (m a) (m b) ∙ ap (λ k. sum (sizes S) (assert_cost k (kind_of (m b)))) (kind_means means a) ∙ ap (λ k. sum (sizes S) (assert_cost (kind_of a) k)) (kind_means means b)
   request_sized BooleanWitness =
-      (sized_on S witness_cost square_cost (push_witness S) (performed R means S BooleanWitness) (witness_sized S) (square_sized R (push_witness S).0 (push_witness S).1)).counts
+      (sized_then (witness_sized S) (square_sized R (push_witness S).0 (push_witness S).1)).counts
   request_sized (BooleanAssert a) = one square_cost (performed R means S (BooleanAssert a)).0 a (square_sized R S (m a)).counts
   request_sized (Not a) = one (subtract_cost native_kind) (performed R means S (Not a)).0 a (subtract_sized R S (Native R.unit) (m a)).counts
   request_sized (And a b) = two operate_cost (performed R means S (And a b)).0 a b (operate_sized R S times_op (m a) (m b)).counts
