@@ -52,10 +52,7 @@ module _ {M : Type 0} (R : RingOn M) where
   negate_sized S x = grind (arith, common_steps)
 
   pub subtract_sized : (S : Sheet M) (x y : Var M) → Sized S (subtract_cost (kind_of x) (kind_of y)) (subtracted R S x y)
-  subtract_sized S x y =
-      let n = negate_sized S y in
-      let d = rw n.kind at (operate_sized (negated R S y).0 plus_op x (negated R S y).1) in
-      sized_then n d
+  subtract_sized S x y = grind (arith, negate_sized, operate_sized)
 
   pub quotient_sized : (S : Sheet M) (x y : Var M) → Sized S (quotient_cost (kind_of x) (kind_of y)) (quotient R S x y)
   quotient_sized S x y =
@@ -66,20 +63,10 @@ module _ {M : Type 0} (R : RingOn M) where
       record { counts = sizes_then _ _ product asserted; kind = refl }
 
   pub square_sized : (S : Sheet M) (x : Var M) → Sized S (square_cost (kind_of x)) (squared R S x)
-  square_sized S x =
-      let p = operate R times_op S x x in
-      let product = operate_sized S times_op x x in
-      let asserted = rw product.kind at (assert_sized p.0 p.1 x) in
-      record { counts = sizes_then _ _ product asserted; kind = refl }
+  square_sized S x = grind (arith, operate_sized, assert_sized)
 
   pub either_sized : (S : Sheet M) (x y : Var M) → Sized S (either_cost (kind_of x) (kind_of y)) (either R S x y)
-  either_sized S x y =
-      let s = operate R plus_op S x y in
-      let p = operate R times_op s.0 x y in
-      let sum = operate_sized S plus_op x y in
-      let product = operate_sized s.0 times_op x y in
-      let rest = rw (sum.kind, product.kind) at (subtract_sized p.0 s.1 p.1) in
-      sized_then sum (sized_then product rest)
+  either_sized S x y = grind (arith, operate_sized, subtract_sized)
 
   pub select_sized : (S : Sheet M) (b t f : Var M) → Sized S (select_cost (kind_of b) (kind_of t) (kind_of f)) (selected R S b t f)
   select_sized S b t f =
