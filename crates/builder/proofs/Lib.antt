@@ -1,4 +1,3 @@
-pub mod Pushes
 pub mod Growth
 pub mod Sizes
 pub mod Calling

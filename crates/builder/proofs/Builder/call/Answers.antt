@@ -1,32 +1,26 @@
-use Rattle.std.proofs.Common.{sym, refl, ap, subst, rules}
+use Rattle.std.proofs.Common.{sym, refl, subst, rules, arith}
+use Rattle.std.proofs.lemmas.Grind.{common_steps}
 use Rattle.std.proofs.lemmas.Result.{err_from_is_err_and}
-use Rattle.builder.specs.declared.cost.Cost.{Cost}
 use Rattle.builder.specs.Within.{Within}
-use Rattle.builder.proofs.Asking.{unmoved, refused_request, room_for, operands_there, within_capacity, is_long, moved, accepted_request}
+use Rattle.builder.proofs.Asking.{refused_request, room_for, operands_there, within_capacity, accepted_request}
 use Rattle.builder.proofs.Builder.call.Goals as goal
 
-pub returns-in_err-admit : goal.returns-in_err-admit
-returns-in_err-admit g c =
+pub returns-in_err-admit-clause-called : goal.returns-in_err-admit-clause-called
+returns-in_err-admit-clause-called g c =
     let r = g.E.Ring in
     let a = c.args in
     let p = err_from_is_err_and c.from_residual.result c.from_residual.ensures.1 in
-    let cost = ap (λ (n : Cost). n.counts) c.cost_of-cost.ensures.cost in
-    rw (p.1, p.2) (record {
-      called = refused_request r.algebra r.means a.self.now a.lacking a.tables.now a.request _ _ _ _ c.lacks-short.ensures c.knows_operands-known.ensures cost c.clashes-clash.ensures _ c.in_err-admit.ensures;
-      stays = unmoved a.self.now a.tables.now;
-      long = tt;
-    })
+    let refused = rw (c.lacks-short.ensures, c.knows_operands-known.ensures, c.cost_of-cost.ensures.cost) at c.in_err-admit.ensures in
+    rw (p.1, p.2) (refused_request r.algebra r.means a.self.now a.lacking a.tables.now a.request _ c.clashes-clash.ensures _ refused)
 
 pub make-answer-requires : goal.make-answer-requires
 make-answer-requires g c =
     let r = g.E.Ring in
     let a = c.args in
-    let cost = ap (λ (n : Cost). n.counts) c.cost_of-cost.ensures.cost in
-    let clash = c.clashes-clash.ensures in
-    let admitted = c.in_ok-admit.ensures in
+    let admitted = rw (c.lacks-short.ensures, c.knows_operands-known.ensures, c.cost_of-cost.ensures.cost) at c.in_ok-admit.ensures in
     record {
-      room = room_for r.algebra r.means a.self.now a.lacking a.tables.now a.request _ _ _ _ c.lacks-short.ensures c.knows_operands-known.ensures cost clash admitted _ refl refl refl refl;
-      operands = operands_there r.algebra r.means a.self.now a.lacking a.tables.now a.request _ _ _ _ c.lacks-short.ensures c.knows_operands-known.ensures cost clash admitted;
+      room = room_for r.algebra r.means a.self.now a.lacking a.tables.now a.request _ c.clashes-clash.ensures admitted _ refl refl refl refl;
+      operands = operands_there r.algebra r.means a.self.now a.lacking a.tables.now a.request _ c.clashes-clash.ensures admitted;
     }
 
 pub invariant_of-self : goal.invariant_of-self
@@ -34,20 +28,13 @@ invariant_of-self g c =
     let r = g.E.Ring in
     let a = c.args in
     let o = a.self.now in
-    let within = within_capacity r.algebra r.means o a.lacking a.tables.now a.request _ _ _ _ c.lacks-short.ensures c.knows_operands-known.ensures (ap (λ (n : Cost). n.counts) c.cost_of-cost.ensures.cost) c.clashes-clash.ensures c.in_ok-admit.ensures in
+    let admitted = rw (c.lacks-short.ensures, c.knows_operands-known.ensures, c.cost_of-cost.ensures.cost) at c.in_ok-admit.ensures in
+    let within = within_capacity r.algebra r.means o a.lacking a.tables.now a.request _ c.clashes-clash.ensures admitted in
     record { small = o.small; below = subst (λ n. Within n o.capacity) (sym c.make-answer.ensures.grew.counts) within }
 
-pub returns : goal.returns
-returns g c =
+pub returns-clause-called : goal.returns-clause-called
+returns-clause-called g c =
     let r = g.E.Ring in
     let a = c.args in
-    let cost = ap (λ (n : Cost). n.counts) c.cost_of-cost.ensures.cost in
-    let clash = c.clashes-clash.ensures in
-    let admitted = c.in_ok-admit.ensures in
-    record {
-      called = accepted_request r.algebra r.means a.self.now a.lacking a.tables.now a.request _ _ _ _ c.lacks-short.ensures c.knows_operands-known.ensures cost clash admitted
-          _ _ c.make-answer.result refl refl refl refl c.make-answer.ensures _ _ refl refl refl refl refl (search rules) (search rules) (search rules);
-      stays = moved r.algebra r.means a.self.now a.lacking a.tables.now a.request _ _ _ _ c.lacks-short.ensures c.knows_operands-known.ensures cost clash admitted
-          _ _ c.make-answer.result refl refl refl refl c.make-answer.ensures _ _ refl refl refl refl refl (search rules) (search rules) (search rules);
-      long = is_long r.algebra r.means a.self.now a.lacking a.tables.now a.request _ _ _ _ c.lacks-short.ensures c.knows_operands-known.ensures cost clash admitted;
-    }
+    let admitted = rw (c.lacks-short.ensures, c.knows_operands-known.ensures, c.cost_of-cost.ensures.cost) at c.in_ok-admit.ensures in
+    accepted_request r.algebra r.means a.self.now a.lacking a.tables.now a.request _ c.clashes-clash.ensures admitted _ _ c.make-answer.result refl refl refl c.make-answer.ensures _ _ refl (search rules) (search rules) (search rules) (grind (arith, common_steps))
