@@ -1,5 +1,5 @@
 -- What a request asks: its operands, cost and answer are those of the calls that it stands for.
-use Rattle.std.proofs.Common.{◌≡◌, ℕ, ◌||◌, Bool, true, false, List, [], ◌∷◌, map, length, Some, None, Option, sym, refl, ap, ◌∙◌, subst, arith}
+use Rattle.std.proofs.Common.{◌≡◌, ℕ, ◌||◌, Bool, true, List, [], ◌∷◌, map, Some, None, Option, refl, ◌∙◌, arith}
 use Rattle.refusal.specs.Outcome.{accepted, refused}
 use Rattle.std.proofs.lemmas.Bool.{and_parts}
 use Rattle.ring.specs.Algebra.{RingOn}
@@ -10,18 +10,14 @@ use Rattle.worksheet.specs.Sheet.{Sheet}
 use Rattle.worksheet.specs.Calls.{var_means, plus_op, times_op, push_witness}
 use Rattle.worksheet.specs.Runs.{verifier, native_square, Call, operands, clashes, perform, reply, refusal}
 use Rattle.worksheet.proofs.Alike.{differ_agree}
-use Rattle.worksheet.proofs.Stepping.{clear}
-use Rattle.builder.specs.declared.cost.Cost.{Cost}
-use Rattle.builder.specs.declared.cost.Kind.{Kind}
-use Rattle.builder.specs.declared.cost.Kind.TheVariants.{Native as native_kind}
 use Rattle.builder.specs.declared.Builder.{Builder}
 use Rattle.builder.specs.declared.Draft.{Draft}
 use Rattle.builder.specs.declared.Tables.{Tables}
 use Rattle.builder.specs.declared.Request.{Request}
 use Rattle.builder.specs.declared.Request.TheVariants.{Constant, Witness, Add, Multiply, Negate, Subtract, DivideBy, DivideId, Invert, AssertEqual, BooleanWitness, BooleanAssert, Not, And, Or, Select}
 use Rattle.builder.specs.Admission.{known_by, all_by, causes}
-use Rattle.builder.specs.Called.{short, Called, Stays, Made}
-use Rattle.builder.specs.Cost.{kind_of, kind_of_id, witness_cost, operate_cost, negate_cost, subtract_cost, assert_cost, quotient_cost, square_cost, either_cost, select_cost}
+use Rattle.builder.specs.Called.{short, Stays, Made}
+use Rattle.builder.specs.Cost.{kind_of}
 use Rattle.builder.specs.Requests.{vars, request_cost, performed, shown, OfStructure, Clash}
 use Rattle.builder.specs.Tables.{sheet_in, AllThere, Room, Wrote}
 use Rattle.builder.specs.Within.{Within, sum}
@@ -29,8 +25,7 @@ use Rattle.builder.proofs.Calling.{Asked, there_known, refused_call, operands_kn
 use Rattle.builder.proofs.Sizes.{sizes, constant_sized, witness_sized, operate_sized, negate_sized, subtract_sized, assert_sized, quotient_sized, square_sized, either_sized, select_sized, sized_then}
 
 kind_means : {E M : Type 0} (means : E → M) (v : Var E) → kind_of (var_means means v) ≡ kind_of v
-kind_means means (Native x) = refl
-kind_means means (Circuit i) = refl
+kind_means means v = grind arith
 
 pub all_there : {E : Type 0} (n : Counts) (vs : List (Var E)) → all_by n vs ≡ true → AllThere n vs
 all_there n [] h = tt
@@ -84,7 +79,7 @@ module _ {E M : Type 0} (R : RingOn M) (means : E → M) (S : Sheet M) where
 
 -- a call that changes nothing
 pub unmoved : {E : Type 0} (o : Builder) (t : Tables E) → Stays o o t t
-unmoved o t = record { capacity = refl; grows = (omega arith, omega arith, omega arith, omega arith); lent = record { constants = refl; nodes = refl; assertions = refl; long_constants = refl; long_nodes = refl; long_assertions = refl } }
+unmoved o t = grind arith
 
 -- a request as a whole, on tables t, where code has found whether other tables are short and whether natives clash
 module _ {E M : Type 0} (R : RingOn M) (means : E → M) (o : Builder) (f : Bool) (t : Tables E) (q : Request E) (clash : Bool) (is_clash : Clash R means q clash) where

@@ -1,17 +1,15 @@
 -- A call that is admitted and written is the step of its definition, and so is one that is refused.
-use Rattle.std.proofs.Common.{◌≡◌, ℕ, ◌≤◌, Bool, true, false, cond, not, ◌&&◌, ◌||◌, ltb, List, [], ◌∷◌, map, length, take, drop, Some, None, Ok, Err, Option, Result, sym, refl, ap, ◌∙◌, subst, inl, inr, arith}
+use Rattle.std.proofs.Common.{◌≡◌, ℕ, ◌≤◌, Bool, true, false, cond, ◌&&◌, ◌||◌, List, [], ◌∷◌, map, length, drop, Some, None, Ok, Err, Option, Result, sym, refl, ap, ◌∙◌, subst, inl, inr, arith}
 use Rattle.std.proofs.lemmas.List.{length-map, length-take-le}
-use Rattle.std.proofs.lemmas.Bool.{cases_Bool, or_parts, ltb-false, ltb-true, not-false, both_ways, cond-true, cond-false}
+use Rattle.std.proofs.lemmas.Bool.{cases_Bool, ltb-false, not-false, both_ways, cond-true, cond-false}
 use Rattle.refusal.specs.declared.Refusal.{Refusal}
 use Rattle.refusal.specs.declared.Refusal.TheVariants.{ShortTable}
 use Rattle.refusal.specs.Outcome.{accepted, refused, outcome}
 use Rattle.ring.specs.Algebra.{RingOn}
 use Rattle.worksheet.specs.declared.CircuitIdx.{CircuitIdx}
-use Rattle.worksheet.specs.declared.CircuitIdx.TheVariants.{Constant, Witness, Node}
 use Rattle.worksheet.specs.declared.CircuitNode.{CircuitNode}
 use Rattle.worksheet.specs.declared.Counts.{Counts}
 use Rattle.worksheet.specs.declared.Var.{Var}
-use Rattle.worksheet.specs.declared.Var.TheVariants.{Native, Circuit}
 use Rattle.worksheet.specs.Sheet.{Sheet}
 use Rattle.worksheet.specs.Calls.{Answered, var_means}
 use Rattle.worksheet.specs.Runs.{verifier, Call, Reply, Worksheet, perform, reply, operands, all_known, known, clashes, refusal, call_causes, step_by}
@@ -27,10 +25,7 @@ use Rattle.builder.proofs.Sizes.{sizes}
 
 -- a variable that is known is there to be read
 pub there_known : {E : Type 0} (n : Counts) (v : Var E) → known_by n v ≡ true → There n v
-there_known n (Native x) h = tt
-there_known n (Circuit (Constant k)) h = ltb-true k n.constants h
-there_known n (Circuit (Witness w)) h = tt
-there_known n (Circuit (Node m)) h = tt
+there_known n v h = grind arith
 
 -- what is known of a call before it is made: its operands, whether it asserts unequal natives, and how much it would append
 pub record Asked {E M : Type 0} (R : RingOn M) (means : E → M) (S : Sheet M) (c : Call R verifier) (vs : List (Var E)) (clash : Bool) (more : Counts) (A : Answered M) (show : Var M → Option (Var M)) : Type 0 where
@@ -58,10 +53,7 @@ module _ {E M : Type 0} (R : RingOn M) (means : E → M) (o : Builder) (f : Bool
   lacks = f || short cap cs ns qs
 
   long : lacks ≡ false → (cap.constants ≤ length cs) × (cap.nodes ≤ length ns) × (cap.assertions ≤ length qs)
-  long h =
-      let a = or_parts (ltb (length cs) cap.constants) _ (or_parts f _ h).1 in
-      let b = or_parts (ltb (length ns) cap.nodes) _ a.1 in
-      (ltb-false _ _ a.0, ltb-false _ _ b.0, ltb-false _ _ b.1)
+  long h = grind arith
 
   sizes_are : lacks ≡ false → sizes S ≡ n
   sizes_are h =
@@ -70,10 +62,7 @@ module _ {E M : Type 0} (R : RingOn M) (means : E → M) (o : Builder) (f : Bool
       grind (arith, length-map, length-take-le)
 
   known_one : lacks ≡ false → (v : Var E) → known_by n v ≡ known S (var_means means v)
-  known_one h (Native x) = refl
-  known_one h (Circuit (Constant k)) = ap (ltb k) (sym (ap (λ (m : Counts). m.constants) (sizes_are h)))
-  known_one h (Circuit (Witness w)) = refl
-  known_one h (Circuit (Node m)) = ap (ltb m) (sym (ap (λ (j : Counts). j.nodes) (sizes_are h)))
+  known_one h v = let s = sizes_are h in grind arith
 
   known_all : lacks ≡ false → (vs : List (Var E)) → all_by n vs ≡ all_known S (map (var_means means) vs)
   known_all h [] = refl

@@ -1,7 +1,6 @@
 -- One write after another: what is kept, and what has grown.
-use Rattle.std.proofs.Common.{◌≡◌, ℕ, ◌+◌, ◌-◌, ◌≤◌, List, drop, sym, ap, ◌∙◌, arith}
+use Rattle.std.proofs.Common.{◌≡◌, ℕ, ◌-◌, ◌≤◌, List, drop, arith}
 use Rattle.std.proofs.lemmas.List.{drop-drop}
-use Rattle.std.proofs.lemmas.Grind.{common_steps}
 use Rattle.worksheet.specs.declared.Counts.{Counts}
 use Rattle.worksheet.specs.declared.Var.{Var}
 use Rattle.worksheet.specs.Sheet.{Sheet}
@@ -9,16 +8,14 @@ use Rattle.worksheet.specs.Calls.{Answered}
 use Rattle.builder.specs.declared.Draft.{Draft}
 use Rattle.builder.specs.declared.cost.Cost.{Cost}
 use Rattle.builder.specs.Cost.{after}
-use Rattle.builder.specs.Tables.{Kept, Grew, Wrote}
+use Rattle.builder.specs.Tables.{Grew, Wrote}
 use Rattle.builder.specs.Within.{sum}
 
 pub sum_assoc : (a b c : Counts) → sum (sum a b) c ≡ sum a (sum b c)
 sum_assoc a b c = grind arith
 
 further : {X : Type 0} (xs ys : List X) (m n : ℕ) → m ≤ n → drop m xs ≡ drop m ys → drop n xs ≡ drop n ys
-further xs ys m n le e =
-    let split : n ≡ m + (n - m) = omega arith in
-    ap (λ k. drop k xs) split ∙ sym (drop-drop (n - m) m xs) ∙ ap (drop (n - m)) e ∙ drop-drop (n - m) m ys ∙ ap (λ k. drop k ys) (sym split)
+further xs ys m n le e = grind (arith, drop-drop (n - m) m xs, drop-drop (n - m) m ys)
 
 module _ {E M : Type 0} {means : E → M} {a b c : Draft E} where
   pub grew_on : {n m : Counts} {S T : Sheet M} → Grew means a b n S → Grew means b c m T → Grew means a c (sum n m) T

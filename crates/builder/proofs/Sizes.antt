@@ -2,17 +2,12 @@
 use Rattle.std.proofs.Common.{◌≡◌, length, refl, arith}
 use Rattle.std.proofs.lemmas.Grind.{common_steps}
 use Rattle.ring.specs.Algebra.{RingOn}
-use Rattle.worksheet.specs.declared.CircuitIdx.{CircuitIdx}
-use Rattle.worksheet.specs.declared.CircuitIdx.TheVariants.{Constant, Witness, Node}
-use Rattle.worksheet.specs.declared.CircuitNode.{CircuitNode}
 use Rattle.worksheet.specs.declared.Counts.{Counts}
 use Rattle.worksheet.specs.declared.Var.{Var}
-use Rattle.worksheet.specs.declared.Var.TheVariants.{Native, Circuit}
 use Rattle.worksheet.specs.Sheet.{Sheet}
-use Rattle.worksheet.specs.Calls.{Answered, Op, plus_op, times_op, push_constant, push_witness, push_node, push_assertion, join, operate, negated, subtracted, asserted, quotient, squared, either, selected}
+use Rattle.worksheet.specs.Calls.{Answered, Op, plus_op, times_op, push_constant, push_witness, operate, negated, subtracted, asserted, quotient, squared, either, selected}
 use Rattle.builder.specs.declared.cost.Cost.{Cost}
-use Rattle.builder.specs.declared.cost.Kind.TheVariants.{Native as plain, Constant as constant}
-use Rattle.builder.specs.Cost.{kind_of, kind_of_id, counts, after, constant_cost, witness_cost, node_cost, join_cost, operate_cost, negate_cost, subtract_cost, assert_cost, quotient_cost, square_cost, either_cost, select_cost}
+use Rattle.builder.specs.Cost.{kind_of, counts, after, constant_cost, witness_cost, operate_cost, negate_cost, subtract_cost, assert_cost, quotient_cost, square_cost, either_cost, select_cost}
 use Rattle.builder.specs.Within.{sum}
 
 abbrev pub sizes : {M : Type 0} → Sheet M → Counts

@@ -1,5 +1,4 @@
 use Rattle.std.proofs.Common.{arith, rules}
-use Rattle.worksheet.specs.declared.Var.TheVariants.{Circuit}
 use Rattle.worksheet.specs.Calls.{var_means, push_witness, times_op, operate}
 use Rattle.builder.specs.Cost.{kind_of, witness_cost, operate_cost}
 use Rattle.builder.specs.Tables.{sheet_of, Wrote}
