@@ -66,7 +66,7 @@ module _ {E M : Type 0} (R : RingOn M) (means : E → M) (o : Builder) (f : Bool
 
   known_all : lacks ≡ false → (vs : List (Var E)) → all_by n vs ≡ all_known S (map (var_means means) vs)
   known_all h [] = refl
-  known_all h (v ∷ vs) = ap (λ b. b && all_by n vs) (known_one h v) ∙ ap (λ b. known S (var_means means v) && b) (known_all h vs)
+  known_all h (v ∷ vs) = grind (arith, known_one h v, known_all h vs)
 
   module _ (vs : List (Var E)) (clash : Bool) (more : Counts) where
     abbrev tests : Bool → List (Bool × ℕ)
@@ -91,10 +91,10 @@ module _ {E M : Type 0} (R : RingOn M) (means : E → M) (o : Builder) (f : Bool
 
   module _ (c : Call R verifier) (vs : List (Var E)) (clash : Bool) (more : Counts) (A : Answered M) (show : Var M → Option (Var M)) (asked : Asked R means S c vs clash more A show) where
     total : lacks ≡ false → sizes (perform R S c).0 ≡ sum n more
-    total h = ap (λ (B : Answered M). sizes B.0) asked.performs ∙ asked.sized ∙ ap (λ m. sum m more) (sizes_are h)
+    total h = let s = sizes_are h in grind arith
 
     known_operands : lacks ≡ false → all_by n vs ≡ all_known S (operands c)
-    known_operands h = known_all h vs ∙ ap (all_known S) asked.named
+    known_operands h = grind (arith, known_all h vs)
 
     same_causes : lacks ≡ false → tests vs clash more lacks ≡ (false, 2) ∷ call_causes R cap S c
     same_causes h =
@@ -104,7 +104,7 @@ module _ {E M : Type 0} (R : RingOn M) (means : E → M) (o : Builder) (f : Bool
 
     pub refused_call : (k : ℕ) → refusal (tests vs clash more lacks) ≡ Some k → Called R means cap n n f cs cs ns ns qs qs c (refused k)
     refused_call k e = record {
-      too_short = λ s. let q : refusal (tests vs clash more true) ≡ Some k = sym (ap (λ b. refusal (tests vs clash more b)) s) ∙ e in let r : 2 ≡ k = cc in ap refused (sym r);
+      too_short = λ s. grind arith;
       stepped = λ s.
           let q : refusal (call_causes R cap S c) ≡ Some k = sym (ap refusal (same_causes s)) ∙ e in
           let done = ap (λ o. step_by R verifier o (worksheet_in means n cs ns qs) c) q in
@@ -119,11 +119,10 @@ module _ {E M : Type 0} (R : RingOn M) (means : E → M) (o : Builder) (f : Bool
         let W : Worksheet M verifier = worksheet_in means n cs ns qs in
         let done = accepts_step R verifier cap W c (sym (known_operands s) ∙ known) (sym asked.clash_is ∙ calm) (subst (λ (m : Counts). Within m cap) (sym (total s)) within) in
         let made : Sheet M → Worksheet M verifier = λ T. record { sheet = T; given = tt; worked = tt } in
-        let replied = ap (λ u. accepted (show u)) answer ∙ sym (asked.replies A.1) ∙ ap (λ (B : Answered M). reply c B.1) (sym asked.performs) in
         record {
           too_short = λ s'. absurd (both_ways _ s s');
-          stepped = λ _. record { worksheet = ap made (sheet ∙ ap (λ (B : Answered M). B.0) (sym asked.performs)) ∙ sym (ap (λ (x : Worksheet M verifier × Reply M). x.0) done); reply = replied ∙ sym (ap (λ (x : Worksheet M verifier × Reply M). x.1) done) };
-          unchanged = λ j e'. absurd (let z : ◌≡◌ {A = ℕ} 0 1 = cc in omega arith);
+          stepped = λ _. record { worksheet = grind arith; reply = grind arith };
+          unchanged = λ j e'. grind arith;
           spare = spare;
         }
 
