@@ -56,13 +56,10 @@ module _ {E M : Type 0} (R : RingOn M) (means : E → M) (o : Builder) (f : Bool
   long h = grind arith
 
   sizes_are : lacks ≡ false → sizes S ≡ n
-  sizes_are h =
-      let l = long h in
-      let within = below in
-      grind (arith, length-map, length-take-le)
+  sizes_are h = grind (arith, length-map, length-take-le, long h, below)
 
   known_one : lacks ≡ false → (v : Var E) → known_by n v ≡ known S (var_means means v)
-  known_one h v = let s = sizes_are h in grind arith
+  known_one h v = grind (arith, sizes_are h)
 
   known_all : lacks ≡ false → (vs : List (Var E)) → all_by n vs ≡ all_known S (map (var_means means) vs)
   known_all h [] = refl
@@ -74,41 +71,31 @@ module _ {E M : Type 0} (R : RingOn M) (means : E → M) (o : Builder) (f : Bool
 
     module _ (e : refusal (tests lacks) ≡ None) where
       passed : (lacks ≡ false) × (all_by n vs ≡ true) × (clash ≡ false)
-      passed = let h = clear (tests lacks) e in (h.0, not-false _ h.1.0, h.1.1.0)
+      passed = grind (arith, clear (tests lacks) e)
 
       pub fits : Within (sum n more) cap
-      fits = let h = (clear (tests lacks) e).1.1.1 in (ltb-false _ _ h.0, ltb-false _ _ h.1.0, ltb-false _ _ h.1.1.0, ltb-false _ _ h.1.1.1.0)
+      fits = grind (arith, clear (tests lacks) e)
 
       pub operands_known : all_by n vs ≡ true
       operands_known = passed.1
 
       pub room : (t : Draft E) → t.counts ≡ n → t.constants.now ≡ cs → t.nodes.now ≡ ns → t.assertions.now ≡ qs → Room t more
-      room t is_n is_cs is_ns is_qs =
-          let l = long passed.0 in
-          let small = o.small in
-          let within = fits in
-          grind arith
+      room t is_n is_cs is_ns is_qs = grind (arith, long passed.0, o.small, fits)
 
   module _ (c : Call R verifier) (vs : List (Var E)) (clash : Bool) (more : Counts) (A : Answered M) (show : Var M → Option (Var M)) (asked : Asked R means S c vs clash more A show) where
     total : lacks ≡ false → sizes (perform R S c).0 ≡ sum n more
-    total h = let s = sizes_are h in grind arith
+    total h = grind (arith, sizes_are h)
 
     known_operands : lacks ≡ false → all_by n vs ≡ all_known S (operands c)
     known_operands h = grind (arith, known_all h vs)
 
     same_causes : lacks ≡ false → tests vs clash more lacks ≡ (false, 2) ∷ call_causes R cap S c
-    same_causes h =
-        let t = total h in
-        let k = known_operands h in
-        grind arith
+    same_causes h = grind (arith, total h, known_operands h)
 
     pub refused_call : (k : ℕ) → refusal (tests vs clash more lacks) ≡ Some k → Called R means cap n n f cs cs ns ns qs qs c (refused k)
     refused_call k e = record {
       too_short = λ s. grind arith;
-      stepped = λ s.
-          let q : refusal (call_causes R cap S c) ≡ Some k = sym (ap refusal (same_causes s)) ∙ e in
-          let done = ap (λ o. step_by R verifier o (worksheet_in means n cs ns qs) c) q in
-          record { worksheet = sym (ap (λ (p : Worksheet M verifier × Reply M). p.0) done); reply = sym (ap (λ (p : Worksheet M verifier × Reply M). p.1) done) };
+      stepped = λ s. grind (arith, same_causes s);
       unchanged = λ _ _. (refl, refl, refl, refl);
       spare = (refl, refl, refl);
     }
@@ -118,10 +105,9 @@ module _ {E M : Type 0} (R : RingOn M) (means : E → M) (o : Builder) (f : Bool
     appended s known calm within n' cs' ns' qs' sheet spare v answer =
         let W : Worksheet M verifier = worksheet_in means n cs ns qs in
         let done = accepts_step R verifier cap W c (sym (known_operands s) ∙ known) (sym asked.clash_is ∙ calm) (subst (λ (m : Counts). Within m cap) (sym (total s)) within) in
-        let made : Sheet M → Worksheet M verifier = λ T. record { sheet = T; given = tt; worked = tt } in
         record {
           too_short = λ s'. absurd (both_ways _ s s');
-          stepped = λ _. record { worksheet = grind arith; reply = grind arith };
+          stepped = λ _. grind arith;
           unchanged = λ j e'. grind arith;
           spare = spare;
         }

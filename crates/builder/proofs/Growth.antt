@@ -11,19 +11,13 @@ use Rattle.builder.specs.Cost.{after}
 use Rattle.builder.specs.Tables.{Grew, Wrote}
 use Rattle.builder.specs.Within.{sum}
 
-pub sum_assoc : (a b c : Counts) → sum (sum a b) c ≡ sum a (sum b c)
-sum_assoc a b c = grind arith
-
 further : {X : Type 0} (xs ys : List X) (m n : ℕ) → m ≤ n → drop m xs ≡ drop m ys → drop n xs ≡ drop n ys
 further xs ys m n le e = grind (arith, drop-drop (n - m) m xs, drop-drop (n - m) m ys)
 
+-- what is written after a first write, with no answer or with one
 module _ {E M : Type 0} {means : E → M} {a b c : Draft E} where
   pub grew_on : {n m : Counts} {S T : Sheet M} → Grew means a b n S → Grew means b c m T → Grew means a c (sum n m) T
   grew_on h k = grind (arith, further)
 
-  -- what is written after a first write, with an answer or with none
   pub wrote_then : {n m : Cost} {A B : Answered M} {v w : Var E} → Wrote means a b n A v → Wrote means b c m B w → Wrote means a c (after n.counts m) B w
   wrote_then h k = record { grew = grew_on h.grew k.grew; answer = k.answer; kind = k.kind; there = k.there }
-
-  pub grew_then : {n : Cost} {m : Counts} {A : Answered M} {T : Sheet M} {v : Var E} → Wrote means a b n A v → Grew means b c m T → Grew means a c (sum n.counts m) T
-  grew_then h k = grew_on h.grew k
