@@ -42,9 +42,6 @@ module _ {E M : Type 0} (R : RingOn M) (means : E → M) (o : Builder) (f : Bool
   abbrev n : Counts
   n = o.counts
 
-  below : Within n cap
-  below = o.below
-
   abbrev S : Sheet M
   S = sheet_in means n cs ns qs
 
@@ -56,7 +53,7 @@ module _ {E M : Type 0} (R : RingOn M) (means : E → M) (o : Builder) (f : Bool
   long h = grind arith
 
   sizes_are : lacks ≡ false → sizes S ≡ n
-  sizes_are h = grind (arith, length-map, length-take-le, long h, below)
+  sizes_are h = grind (arith, length-map, length-take-le, long h, o.below)
 
   known_one : lacks ≡ false → (v : Var E) → known_by n v ≡ known S (var_means means v)
   known_one h v = grind (arith, sizes_are h)
@@ -106,7 +103,7 @@ module _ {E M : Type 0} (R : RingOn M) (means : E → M) (o : Builder) (f : Bool
         let W : Worksheet M verifier = worksheet_in means n cs ns qs in
         let done = accepts_step R verifier cap W c (sym (known_operands s) ∙ known) (sym asked.clash_is ∙ calm) (subst (λ (m : Counts). Within m cap) (sym (total s)) within) in
         record {
-          too_short = λ s'. absurd (both_ways _ s s');
+          too_short = λ s'. grind arith;
           stepped = λ _. grind arith;
           unchanged = λ j e'. grind arith;
           spare = spare;
@@ -123,11 +120,6 @@ module _ {E M : Type 0} (R : RingOn M) (means : E → M) (o : Builder) (f : Bool
   pub answered_call : (c : Call R verifier) (A : Answered M) (show : Var M → Option (Var M)) → (vs : List (Var E)) → all_by n vs ≡ true → Asked R means S c vs false (counts 0 0 0 0) A show → A.0 ≡ S → (v : Var E) → var_means means v ≡ A.1 → (r : Result (Var E) Refusal) → r ≡ cond lacks (Err ShortTable) (Ok v) → Called R means cap n n f cs cs ns ns qs qs c (outcome (λ u. show (var_means means u)) r)
   answered_call c A show vs known asked same v answer r is =
       elim (cases_Bool lacks) [
-        | inl s ↦
-            let r_is : r ≡ Err ShortTable = is ∙ cond-true _ _ _ s in
-            rw r_is (refused_call c vs false (counts 0 0 0 0) A show asked 2 (ap (λ b. refusal (tests vs false (counts 0 0 0 0) b)) s))
-        | inr s ↦
-            let r_is : r ≡ Ok v = is ∙ cond-false _ _ _ s in
-            let within = below in
-            rw r_is (appended c vs false (counts 0 0 0 0) A show asked s known refl (omega arith, omega arith, omega arith, omega arith) n cs ns qs (sym same) (refl, refl, refl) v answer)
+        | inl s ↦ rw (is, s) (refused_call c vs false (counts 0 0 0 0) A show asked 2 (grind arith))
+        | inr s ↦ rw (is, s) (appended c vs false (counts 0 0 0 0) A show asked s known refl (grind (arith, o.below)) n cs ns qs (sym same) (refl, refl, refl) v answer)
       ]
