@@ -1,9 +1,7 @@
 -- What a request asks: its operands, cost and answer are those of the calls that it stands for.
-use Rattle.std.proofs.Common.{◌≡◌, ℕ, ◌||◌, Bool, true, List, [], ◌∷◌, map, Some, None, Option, refl, ◌∙◌, arith}
+use Rattle.std.proofs.Common.{◌≡◌, ℕ, ◌||◌, Bool, map, Some, None, Option, refl, ◌∙◌, arith}
 use Rattle.refusal.specs.Outcome.{accepted, refused}
-use Rattle.std.proofs.lemmas.Bool.{and_parts}
 use Rattle.ring.specs.Algebra.{RingOn}
-use Rattle.worksheet.specs.declared.Counts.{Counts}
 use Rattle.worksheet.specs.declared.Var.{Var}
 use Rattle.worksheet.specs.declared.Var.TheVariants.{Native, Circuit}
 use Rattle.worksheet.specs.Sheet.{Sheet}
@@ -15,21 +13,17 @@ use Rattle.builder.specs.declared.Draft.{Draft}
 use Rattle.builder.specs.declared.Tables.{Tables}
 use Rattle.builder.specs.declared.Request.{Request}
 use Rattle.builder.specs.declared.Request.TheVariants.{Constant, Witness, Add, Multiply, Negate, Subtract, DivideBy, DivideId, Invert, AssertEqual, BooleanWitness, BooleanAssert, Not, And, Or, Select}
-use Rattle.builder.specs.Admission.{known_by, all_by, causes}
+use Rattle.builder.specs.Admission.{all_by, causes}
 use Rattle.builder.specs.Called.{short, Stays, Made}
 use Rattle.builder.specs.Cost.{kind_of}
 use Rattle.builder.specs.Requests.{vars, request_cost, performed, shown, OfStructure, Clash}
-use Rattle.builder.specs.Tables.{sheet_in, AllThere, Room, Wrote}
-use Rattle.builder.specs.Within.{Within, sum}
-use Rattle.builder.proofs.Calling.{Asked, there_known, refused_call, operands_known, room, fits, accepted_call}
+use Rattle.builder.specs.Tables.{sheet_in, Wrote}
+use Rattle.builder.specs.Within.{sum}
+use Rattle.builder.proofs.Calling.{Asked, refused_call, accepted_call}
 use Rattle.builder.proofs.Sizes.{sizes, constant_sized, witness_sized, operate_sized, negate_sized, subtract_sized, assert_sized, quotient_sized, square_sized, either_sized, select_sized, sized_then}
 
 kind_means : {E M : Type 0} (means : E → M) (v : Var E) → kind_of (var_means means v) ≡ kind_of v
 kind_means means v = grind arith
-
-pub all_there : {E : Type 0} (n : Counts) (vs : List (Var E)) → all_by n vs ≡ true → AllThere n vs
-all_there n [] h = tt
-all_there n (v ∷ vs) h = let both = and_parts (known_by n v) (all_by n vs) h in (there_known n v both.0, all_there n vs both.1)
 
 module _ {E M : Type 0} (R : RingOn M) (means : E → M) (S : Sheet M) where
   abbrev m : Var E → Var M
@@ -95,19 +89,9 @@ module _ {E M : Type 0} (R : RingOn M) (means : E → M) (o : Builder) (f : Bool
     stays = unmoved o t;
   })
 
-  module _ (e : Refusing None) where
-    pub room_for : (d : Draft E) → d.counts ≡ o.counts → d.constants.now ≡ t.constants.now → d.nodes.now ≡ t.nodes.now → d.assertions.now ≡ t.assertions.now → Room d (request_cost q).counts
-    room_for = room R means o f t.constants.now t.nodes.now t.assertions.now (vars q) clash (request_cost q).counts e
-
-    pub operands_there : AllThere o.counts (vars q)
-    operands_there = all_there o.counts (vars q) (operands_known R means o f t.constants.now t.nodes.now t.assertions.now (vars q) clash (request_cost q).counts e)
-
-    pub within_capacity : Within (sum o.counts (request_cost q).counts) o.capacity
-    within_capacity = fits R means o f t.constants.now t.nodes.now t.assertions.now (vars q) clash (request_cost q).counts e
-
-    -- d and d' are the draft before and after
-    pub accepted_request : (d d' : Draft E) (v : Var E) → d.constants.now ≡ t.constants.now → d.nodes.now ≡ t.nodes.now → d.assertions.now ≡ t.assertions.now → Wrote means d d' (request_cost q) (performed R means S q) v → (is : Builder) (t' : Tables E) → is.counts ≡ d'.counts → t'.constants.now ≡ d'.constants.now → t'.nodes.now ≡ d'.nodes.now → t'.assertions.now ≡ d'.assertions.now → Stays o is t t' → OfStructure R means q (λ c. Made R means f o is t t' c (accepted (shown R means q (var_means means v))))
-    accepted_request d d' v cs ns qs wrote is t' counted cs' ns' qs' stays = of_asked R means S q clash is_clash (λ c. Made R means f o is t t' c (accepted (shown R means q (var_means means v)))) (λ c asked. record {
-      called = rw counted (accepted_call R means o f t.constants.now t.nodes.now t.assertions.now c _ clash _ _ _ asked e d d' v cs ns qs wrote.grew wrote.answer _ _ _ cs' ns' qs');
-      stays = stays;
-    })
+  -- d and d' are the draft before and after
+  pub accepted_request : Refusing None → (d d' : Draft E) (v : Var E) → d.constants.now ≡ t.constants.now → d.nodes.now ≡ t.nodes.now → d.assertions.now ≡ t.assertions.now → Wrote means d d' (request_cost q) (performed R means S q) v → (is : Builder) (t' : Tables E) → is.counts ≡ d'.counts → t'.constants.now ≡ d'.constants.now → t'.nodes.now ≡ d'.nodes.now → t'.assertions.now ≡ d'.assertions.now → Stays o is t t' → OfStructure R means q (λ c. Made R means f o is t t' c (accepted (shown R means q (var_means means v))))
+  accepted_request e d d' v cs ns qs wrote is t' counted cs' ns' qs' stays = of_asked R means S q clash is_clash (λ c. Made R means f o is t t' c (accepted (shown R means q (var_means means v)))) (λ c asked. record {
+    called = rw counted (accepted_call R means o f t.constants.now t.nodes.now t.assertions.now c _ clash _ _ _ asked e d d' v cs ns qs wrote.grew wrote.answer _ _ _ cs' ns' qs');
+    stays = stays;
+  })

@@ -1,6 +1,7 @@
 -- Entries of a table whose first n are in use, and what a value depends on.
 use Rattle.std.proofs.Common.{◌≡◌, ℕ, ◌<◌, ◌≤◌, List, [], ◌∷◌, ◌++◌, map, length, get_or, take, sym, refl, ap, ◌∙◌, ap₂, arith, length-take}
-use Rattle.std.proofs.lemmas.List.{length-map, get_or-map, get_or-take, get_or_past}
+use lib.ListN.{length-map}
+use Rattle.std.proofs.lemmas.List.{get_or-map, get_or-take, get_or_past}
 use Rattle.ring.specs.Algebra.{RingOn}
 use Rattle.worksheet.specs.declared.CircuitIdx.{CircuitIdx}
 use Rattle.worksheet.specs.declared.CircuitIdx.TheVariants.{Constant, Witness, Node}

@@ -2,7 +2,9 @@ use Rattle.std.proofs.Common.{sym, refl, subst, rules, arith}
 use Rattle.std.proofs.lemmas.Grind.{common_steps}
 use Rattle.std.proofs.lemmas.Result.{err_from_is_err_and}
 use Rattle.builder.specs.Within.{Within}
-use Rattle.builder.proofs.Asking.{refused_request, room_for, operands_there, within_capacity, accepted_request}
+use Rattle.builder.specs.Requests.{vars, request_cost}
+use Rattle.builder.proofs.Calling.{operands_there, fits, room}
+use Rattle.builder.proofs.Asking.{refused_request, accepted_request}
 use Rattle.builder.proofs.Builder.call.Goals as goal
 
 pub returns-in_err-admit-clause-called : goal.returns-in_err-admit-clause-called
@@ -15,21 +17,22 @@ returns-in_err-admit-clause-called g c =
 
 pub make-answer-requires : goal.make-answer-requires
 make-answer-requires g c =
-    let r = g.E.Ring in
     let a = c.args in
+    let t = a.tables.now in
+    let more = (request_cost a.request).counts in
     let admitted = rw (c.lacks-short.ensures, c.knows_operands-known.ensures, c.cost_of-cost.ensures.cost) at c.in_ok-admit.ensures in
     record {
-      room = room_for r.algebra r.means a.self.now a.lacking a.tables.now a.request _ c.clashes-clash.ensures admitted _ refl refl refl refl;
-      operands = operands_there r.algebra r.means a.self.now a.lacking a.tables.now a.request _ c.clashes-clash.ensures admitted;
+      room = room a.self.now a.lacking t.constants.now t.nodes.now t.assertions.now (vars a.request) c.clashes-clash.result more admitted _ refl refl refl refl;
+      operands = operands_there a.self.now a.lacking t.constants.now t.nodes.now t.assertions.now (vars a.request) c.clashes-clash.result more admitted;
     }
 
 pub invariant_of-self : goal.invariant_of-self
 invariant_of-self g c =
-    let r = g.E.Ring in
     let a = c.args in
     let o = a.self.now in
+    let t = a.tables.now in
     let admitted = rw (c.lacks-short.ensures, c.knows_operands-known.ensures, c.cost_of-cost.ensures.cost) at c.in_ok-admit.ensures in
-    let within = within_capacity r.algebra r.means o a.lacking a.tables.now a.request _ c.clashes-clash.ensures admitted in
+    let within = fits o a.lacking t.constants.now t.nodes.now t.assertions.now (vars a.request) c.clashes-clash.result (request_cost a.request).counts admitted in
     record { small = o.small; below = subst (λ n. Within n o.capacity) (sym c.make-answer.ensures.grew.counts) within }
 
 pub returns-clause-called : goal.returns-clause-called
