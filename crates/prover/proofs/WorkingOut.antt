@@ -1,6 +1,6 @@
 -- One node more is worked out.
 use Rattle.std.proofs.Common.{◌≡◌, ℕ, ◌+◌, ◌<◌, ◌≤◌, List, [], ◌∷◌, ◌++◌, map, length, get_or, take, drop, set, sym, ap, ◌∙◌, ap₂, arith}
-use Rattle.std.proofs.lemmas.List.{take_more_set, map_push, drop_more, drop_all, get_or-take, get_or_default, length-take-le}
+use Rattle.std.proofs.lemmas.List.{take_more_set, map_push, drop_more, get_or-take, get_or_default, length-take-le}
 use Rattle.ring.specs.Algebra.{RingOn}
 use Rattle.worksheet.specs.declared.CircuitIdx.{CircuitIdx}
 use Rattle.worksheet.specs.declared.CircuitNode.{CircuitNode}
@@ -21,9 +21,6 @@ module _ {E M : Type 0} (R : RingOn M) (means : E → M) (S : Sheet M) (ρ : Lis
       let next : drop k nds ≡ nd ∷ drop (k + 1) nds = drop_more nds k nd under ∙ ap (λ (m : CircuitNode). m ∷ drop (k + 1) nds) (get_or-take N ns k nd lt ∙ sym is) in
       let grown : map means (take (k + 1) (set ws k x)) ≡ done ++ (combine R nd (look R S ρ done (left_of nd)) (look R S ρ done (right_of nd)) ∷ []) = ap (map means) (take_more_set ws k x in_ws) ∙ map_push means (take k ws) x ∙ ap (λ (y : M). done ++ (y ∷ [])) worth in
       ap (λ (vs : List M). work_out R S ρ vs (drop (k + 1) nds)) grown ∙ sym (ap (λ (ms : List CircuitNode). work_out R S ρ done ms) next)
-
-  pub all_worked : (k : ℕ) → N ≤ k → work_out R S ρ (map means (take k ws)) (drop k nds) ≡ map means (take k ws)
-  all_worked k le = ap (work_out R S ρ (map means (take k ws))) (drop_all k nds (omega (arith, length-take-le N ns long)))
 
 -- what is read where counts and tables are others of the same content
 pub read_by : {E M : Type 0} (R : RingOn M) (means : E → M) (m n : Counts) (cs cs' vs vs' ws ws' : List E) → m ≡ n → cs ≡ cs' → vs ≡ vs' → ws ≡ ws' → (a : CircuitIdx) → read R means m cs vs ws a ≡ read R means n cs' vs' ws' a

@@ -1,8 +1,8 @@
-use Rattle.std.proofs.Common.{◌≡◌, map, take, sym, ap, ◌∙◌, arith, length-set}
+use Rattle.std.proofs.Common.{map, take, ap, ◌∙◌, arith, length-set}
 use Rattle.std.proofs.lemmas.List.{drop-set-lt}
 use Rattle.builder.specs.declared.Tables.{Tables}
 use Rattle.prover.specs.Book.{of_constants}
-use Rattle.prover.proofs.WorkingOut.{one_more, all_worked, read_by, combine_by, node_kept}
+use Rattle.prover.proofs.WorkingOut.{one_more, read_by, combine_by, node_kept}
 use Rattle.prover.proofs.Ledger.work_out.Goals as goal
 
 pub loop-k-preserved : goal.loop-k-preserved
@@ -27,23 +27,4 @@ loop-k-preserved g c =
       handed = c.loop-k.invariant.handed;
       lent = c.loop-k.invariant.lent;
       long = length-set ws k x ∙ long;
-    }
-
-pub returns : goal.returns
-returns g c =
-    let r = g.E.Ring in
-    let a = c.args in
-    let n = a.counts in
-    let was = a.self.now in
-    let S = of_constants (map r.means (take n.constants was.tables.constants.now)) in
-    let ρ = map r.means (take n.witnesses was.values.now) in
-    let ws = c.loop-k.self.worked.now in
-    let k = c.loop-k.k in
-    let end : k ≡ n.nodes = omega arith in
-    record {
-      values = ap (λ m. map r.means (take m ws)) (sym end) ∙ sym (all_worked r.algebra r.means S ρ was.tables.nodes.now n.nodes (omega arith) ws k (omega arith)) ∙ c.loop-k.invariant.values;
-      spare = c.loop-k.invariant.spare;
-      structure = c.loop-k.invariant.structure;
-      handed = c.loop-k.invariant.handed;
-      lent = c.loop-k.invariant.lent;
     }
