@@ -51,7 +51,10 @@ module _ {E M : Type 0} (R : RingOn M) (means : E → M) (val : CircuitIdx → M
   of_made (Select b t f) Made k P h = h _ k (inl refl)
 
 -- a request as a whole, by what it does to the structure; code has found whether tables of values are short
-module _ {E M : Type 0} (R : RingOn M) (means : E → M) (was is : Builder) (t t' : Ledger E) (x : E) (q : Request E) (lacking : Bool) (is_lacking : lacking ≡ lacks was.capacity (held t)) where
+module _ {E M : Type 0} (R : RingOn M) (means : E → M) (was is : Builder) (t t' : Ledger E) (x : E) (q : Request E) {cap : Counts} (is_capacity : cap ≡ was.capacity) {lacking : Bool} (is_short : lacking ≡ lacks cap (held t)) where
+  is_lacking : lacking ≡ lacks was.capacity (held t)
+  is_lacking = is_short ∙ ap (λ (n : Counts). lacks n (held t)) is_capacity
+
   abbrev val : CircuitIdx → M
   val = values_of R (worksheet_in means was.counts (held t))
 

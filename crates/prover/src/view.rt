@@ -58,6 +58,7 @@ impl<'a, E: Ring> Values<'a, E> {
     }
 
     // Whether every assertion holds on the values.
+    #[tactic(auto, using(std::proofs::lemmas::List::take_min))]
     pub fn is_satisfied(&self) -> bool
         ensures { (ns : List Node) → Decides result (Holds (sheet_of E.means self.now.counts (book self.now.constants.now ns self.now.assertions.now self.now.values.now self.now.worked.now)) (values_of E.algebra (worksheet_in E.means self.now.counts (book self.now.constants.now ns self.now.assertions.now self.now.values.now self.now.worked.now)))) }
     {
