@@ -21,14 +21,14 @@ use Rattle.prover.specs.Filled.{Filled}
 use Rattle.prover.proofs.Calling.{Handed, refused_so, accepted_so}
 
 pair : {A : Type 0} {x y u v : A} → x ≡ y → u ≡ v → ◌≡◌ {A = A × A} (y, v) (x, u)
-pair {A} {x} {y} {u} {v} p q = ap (λ (a : A). (a, v)) (sym p) ∙ ap (λ (b : A). (x, b)) (sym q)
+pair p q = cc
 
 at_counts : {b n a n' : Counts} (P : Counts → Counts → Type 0) → b ≡ n → a ≡ n' → P b a → P n n'
 at_counts {b} {n} {a} {n'} P p q h = subst (λ m. P m n') p (subst (P b) q h)
 
 module _ {E M : Type 0} (R : RingOn M) (means : E → M) (val : CircuitIdx → M) (x : M) where
   one : {y : M} → x ≡ y → ◌≡◌ {A = List M} (y ∷ []) (x ∷ [])
-  one e = ap (λ z. z ∷ []) (sym e)
+  one e = cc
 
   -- what holds of the verifier's call, and hands over x, holds of the prover's
   pub of_made : (q : Request E) (Made : Call R verifier → Type 0) → OfStructure R means q Made → (P : Call R prover → Type 0) → ((c : Call R prover) → Made (erase c) → Handed x (fresh R val c) → P c) → Of R means val (λ y. x ≡ y) q P

@@ -121,13 +121,10 @@ past_handed vs vs' n n' x is = elim (cases_lt n n') [
 ]
 
 same_book : {E : Type 0} {cs cs' : List E} {ns ns' : List CircuitNode} {qs qs' : List (CircuitIdx × CircuitIdx)} (vs ws : List E) → cs' ≡ cs → ns' ≡ ns → qs' ≡ qs → book cs' ns' qs' vs ws ≡ book cs ns qs vs ws
-same_book {E} {cs} {cs'} {ns} {ns'} {qs} {qs'} vs ws a b c =
-    ap (λ (x : List E). book x ns' qs' vs ws) a ∙ ap (λ (x : List CircuitNode). book cs x qs' vs ws) b ∙ ap (λ (x : List (CircuitIdx × CircuitIdx)). book cs ns x vs ws) c
+same_book vs ws a b c = cc
 
 pub same_worksheet : {M : Type 0} {S T : Sheet M} {g h v w : List M} → S ≡ T → g ≡ h → v ≡ w → ◌≡◌ {A = Worksheet M prover} (record { sheet = S; given = g; worked = v }) (record { sheet = T; given = h; worked = w })
-same_worksheet {M} {S} {T} {g} {h} {v} {w} a b c =
-    let at : Sheet M → List M → List M → Worksheet M prover = λ R x y. record { sheet = R; given = x; worked = y } in
-    ap (λ (R : Sheet M). at R g v) a ∙ ap (λ (x : List M). at T x v) b ∙ ap (λ (y : List M). at T h y) c
+same_worksheet a b c = cc
 
 module _ {E M : Type 0} (R : RingOn M) (means : E → M) (cap n : Counts) (t : Book E) (c : Call R prover) where
   abbrev S : Sheet M
@@ -179,9 +176,7 @@ module _ {E M : Type 0} (R : RingOn M) (means : E → M) (cap n : Counts) (t : B
             let v = (perform R S (erase c)).1 in
             let a = (erased R cap S c).answers v in
             let r = (erased R cap S c).replies v in
-            let z : ◌≡◌ {A = ℕ} 0 1 = cc (e, is, r, a.1) in
-            let y : ⊥ = omega arith in
-            absurd y
+            absurd (cc (e, is, r, a.1))
 
     -- the structure is written, and then the values
     module _ (vs' ws' : List E) (x : E) (o : Option (Var M)) (is : p ≡ accepted o) (below : (n.nodes ≤ cap.nodes) × (n'.witnesses ≤ cap.witnesses)) (new : Handed (means x) (fresh R (values_of R W) c)) (filled : Filled R means n n' x (book cs' ns' qs' t.values t.worked) (book cs' ns' qs' vs' ws')) where
@@ -209,9 +204,9 @@ module _ {E M : Type 0} (R : RingOn M) (means : E → M) (cap n : Counts) (t : B
 
       pub accepted_so : Called R means cap n n' t (book cs' ns' qs' vs' ws') c p
       accepted_so = record {
-        too_short = λ s. let z : ◌≡◌ {A = ℕ} 0 1 = cc (is, made.too_short s) in let y : ⊥ = omega arith in absurd y;
+        too_short = λ s. absurd (cc (is, made.too_short s));
         stepped = λ s. let done = go s causes (replied s) (left s) in record { worksheet = done.0; reply = done.1 };
-        unchanged = λ k e. let z : ◌≡◌ {A = ℕ} 0 1 = cc (is, e) in let y : ⊥ = omega arith in absurd y;
+        unchanged = λ k e. absurd (cc (is, e));
         spare_constants = made.spare.0;
         spare_nodes = made.spare.1;
         spare_assertions = made.spare.2;
@@ -220,5 +215,5 @@ module _ {E M : Type 0} (R : RingOn M) (means : E → M) (cap n : Counts) (t : B
       }
         where
           go : short cap t ≡ false → (b : Option ℕ) → p ≡ (step_by R verifier b V (erase c)).1 → V' ≡ (step_by R verifier b V (erase c)).0 → (W' ≡ (step_by R prover b W c).0) × (p ≡ (step_by R prover b W c).1)
-          go s (Some j) e q = let z : ◌≡◌ {A = ℕ} 0 1 = cc (is, e) in let y : ⊥ = omega arith in absurd y
+          go s (Some j) e q = absurd (cc (is, e))
           go s None e q = (grown s q, e ∙ (erased R cap S c).replies _ ∙ ap (λ (A : Answered M). reply c A.1) (erased R cap S c).performs)

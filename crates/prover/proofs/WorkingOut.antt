@@ -1,5 +1,5 @@
 -- One node more is worked out.
-use Rattle.std.proofs.Common.{◌≡◌, ℕ, ◌+◌, ◌<◌, ◌≤◌, List, [], ◌∷◌, ◌++◌, map, length, get_or, take, drop, set, sym, ap, ◌∙◌, ap₂, arith}
+use Rattle.std.proofs.Common.{◌≡◌, ℕ, ◌+◌, ◌<◌, ◌≤◌, List, [], ◌∷◌, ◌++◌, map, length, get_or, take, drop, set, sym, ap, ◌∙◌, arith}
 use Rattle.std.proofs.lemmas.List.{take_more_set, map_push, drop_more, get_or-take, get_or_default, length-take-le}
 use Rattle.ring.specs.Algebra.{RingOn}
 use Rattle.worksheet.specs.declared.CircuitIdx.{CircuitIdx}
@@ -24,11 +24,10 @@ module _ {E M : Type 0} (R : RingOn M) (means : E → M) (S : Sheet M) (ρ : Lis
 
 -- what is read where counts and tables are others of the same content
 pub read_by : {E M : Type 0} (R : RingOn M) (means : E → M) (m n : Counts) (cs cs' vs vs' ws ws' : List E) → m ≡ n → cs ≡ cs' → vs ≡ vs' → ws ≡ ws' → (a : CircuitIdx) → read R means m cs vs ws a ≡ read R means n cs' vs' ws' a
-read_by R means m n cs cs' vs vs' ws ws' p q r s a =
-    ap (λ (k : Counts). read R means k cs vs ws a) p ∙ ap (λ (xs : List _). read R means n xs vs ws a) q ∙ ap (λ (xs : List _). read R means n cs' xs ws a) r ∙ ap (λ (xs : List _). read R means n cs' vs' xs a) s
+read_by R means m n cs cs' vs vs' ws ws' p q r s a = cc
 
 pub combine_by : {M : Type 0} (R : RingOn M) (nd : CircuitNode) (f h : CircuitIdx → M) → ((a : CircuitIdx) → f a ≡ h a) → combine R nd (f (left_of nd)) (f (right_of nd)) ≡ combine R nd (h (left_of nd)) (h (right_of nd))
-combine_by R nd f h e = ap₂ (combine R nd) (e (left_of nd)) (e (right_of nd))
+combine_by R nd f h e = let l = e (left_of nd) in let r = e (right_of nd) in cc
 
 pub node_kept : {E : Type 0} (t t' : Tables E) → t ≡ t' → (k : ℕ) (d : CircuitNode) → k < length t'.nodes.now → get_or t.nodes.now k d ≡ get_or t'.nodes.now k (get_or t.nodes.now k d)
 node_kept t t' same k d lt = ap (λ (s : Tables _). get_or s.nodes.now k d) same ∙ get_or_default t'.nodes.now k d _ lt
