@@ -23,9 +23,6 @@ use Rattle.prover.proofs.Calling.{Handed, refused_so, accepted_so}
 pair : {A : Type 0} {x y u v : A} → x ≡ y → u ≡ v → ◌≡◌ {A = A × A} (y, v) (x, u)
 pair p q = cc
 
-at_counts : {b n a n' : Counts} (P : Counts → Counts → Type 0) → b ≡ n → a ≡ n' → P b a → P n n'
-at_counts {b} {n} {a} {n'} P p q h = subst (λ m. P m n') p (subst (P b) q h)
-
 module _ {E M : Type 0} (R : RingOn M) (means : E → M) (val : CircuitIdx → M) (x : M) where
   one : {y : M} → x ≡ y → ◌≡◌ {A = List M} (y ∷ []) (x ∷ [])
   one e = cc
@@ -92,7 +89,7 @@ module _ {E M : Type 0} (R : RingOn M) (means : E → M) (was is : Builder) (t t
   pub accepted_request : (m : Tables E) (o : Option (Var M)) (b a : Counts) → t'.tables ≡ m → b ≡ was.counts → a ≡ is.counts → StructureStays was is t.tables m → t'.values.ghost_name ≡ t.values.ghost_name → t'.worked.ghost_name ≡ t.worked.ghost_name → Filled R means b a x (book m.constants.now m.nodes.now m.assertions.now t.values.now t.worked.now) (held t') → OfStructure R means q (λ c. Structured R means lacking was is t.tables m c (accepted o)) → Of R means val (λ y. means x ≡ y) q (λ c. Made R means was is t t' c (accepted o))
   accepted_request m o b a same is_b is_a stays vs ws filled made =
       let old = book m.constants.now m.nodes.now m.assertions.now t.values.now t.worked.now in
-      let filled' = at_counts (λ n n'. Filled R means n n' x old (held t')) is_b is_a filled in
+      let filled' = rw (is_b, is_a) at filled in
       accepted_then o vs ws (subst (λ (m : Tables E). Then m o) (sym same) (stays, filled', made))
 
   pub shaped_request : (m : Tables E) (p : Reply M) → t'.tables ≡ m → OfStructure R means q (λ c. Structured R means lacking was is t.tables m c p) → OfStructure R means q (λ c. Shaped R means was is t t' c p)

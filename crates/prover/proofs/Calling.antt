@@ -10,6 +10,7 @@ use Rattle.worksheet.specs.declared.Counts.{Counts}
 use Rattle.worksheet.specs.declared.Var.{Var}
 use Rattle.worksheet.specs.Sheet.{Sheet}
 use Rattle.worksheet.specs.Calls.{Answered}
+use Rattle.worksheet.specs.Law.{Stepped}
 use Rattle.worksheet.specs.Runs.{
   prover,
   verifier,
@@ -100,18 +101,16 @@ pub handed : {E M : Type 0} (means : E → M) (vs vs' : List E) (n n' : ℕ) (x 
 handed means vs vs' n n' x xs le count (inl none) is =
     let nil = ap length none in
     let same : n' ≡ n = omega arith in
-    ap (λ ys. map means (take n' ys)) (is ∙ cond-false (ltb n n') _ _ (le-ltb n n' (omega arith)))
-    ∙ ap (λ k. map means (take k vs)) same
-    ∙ sym (append-nil (map means (take n vs)))
-    ∙ ap (λ ys. map means (take n vs) ++ ys) (sym none)
+    let kept = is ∙ cond-false (ltb n n') _ _ (le-ltb n n' (omega arith)) in
+    let ends = append-nil (map means (take n vs)) in
+    cc
 handed means vs vs' n n' x xs le count (inr one) is =
     let sole = ap length one in
     let more : n' ≡ n + 1 = omega arith in
-    ap (λ ys. map means (take n' ys)) (is ∙ cond-true (ltb n n') _ _ (lt-ltb n n' (omega arith)))
-    ∙ ap (λ k. map means (take k (set vs n x))) more
-    ∙ ap (map means) (take_more_set vs n x (omega arith))
-    ∙ map_push means (take n vs) x
-    ∙ ap (λ ys. map means (take n vs) ++ ys) (sym one)
+    let written = is ∙ cond-true (ltb n n') _ _ (lt-ltb n n' (omega arith)) in
+    let grown = take_more_set vs n x (omega arith) in
+    let pushed = map_push means (take n vs) x in
+    cc
 
 -- and what stands past them
 pub past_handed : {E : Type 0} (vs vs' : List E) (n n' : ℕ) (x : E) → vs' ≡ cond (ltb n n') (set vs n x) vs → drop n' vs' ≡ drop n' vs
@@ -120,11 +119,11 @@ past_handed vs vs' n n' x is = elim (cases_lt n n') [
   | inr le ↦ ap (drop n') (is ∙ cond-false (ltb n n') _ _ (le-ltb n n' le))
 ]
 
-same_book : {E : Type 0} {cs cs' : List E} {ns ns' : List CircuitNode} {qs qs' : List (CircuitIdx × CircuitIdx)} (vs ws : List E) → cs' ≡ cs → ns' ≡ ns → qs' ≡ qs → book cs' ns' qs' vs ws ≡ book cs ns qs vs ws
-same_book vs ws a b c = cc
-
-pub same_worksheet : {M : Type 0} {S T : Sheet M} {g h v w : List M} → S ≡ T → g ≡ h → v ≡ w → ◌≡◌ {A = Worksheet M prover} (record { sheet = S; given = g; worked = v }) (record { sheet = T; given = h; worked = w })
-same_worksheet a b c = cc
+pub stepped_by : {M : Type 0} (R : RingOn M) (cap : Counts) (W : Worksheet M prover) (c : Call R prover) {W' : Worksheet M prover} {p : Reply M} {x : Worksheet M prover × Reply M} → step R prover cap W c ≡ x → W' ≡ x.0 → p ≡ x.1 → Stepped R prover cap W W' c p
+stepped_by R cap W c done is_worksheet is_reply = record {
+  worksheet = is_worksheet ∙ sym (ap (λ (y : Worksheet _ prover × Reply _). y.0) done);
+  reply = is_reply ∙ sym (ap (λ (y : Worksheet _ prover × Reply _). y.1) done);
+}
 
 module _ {E M : Type 0} (R : RingOn M) (means : E → M) (cap n : Counts) (t : Book E) (c : Call R prover) where
   abbrev S : Sheet M
@@ -157,11 +156,11 @@ module _ {E M : Type 0} (R : RingOn M) (means : E → M) (cap n : Counts) (t : B
     pub refused_so : (k : ℕ) → p ≡ refused k → Called R means cap n n' t (book cs' ns' qs' t.values t.worked) c p
     refused_so k is =
         let same = made.unchanged k is in
-        let tables = same_book t.values t.worked same.1 same.2 same.3 in
-        let worksheet : worksheet_in means n' (book cs' ns' qs' t.values t.worked) ≡ W = ap (λ (m : Counts). worksheet_in means m (book cs' ns' qs' t.values t.worked)) same.0 ∙ ap (worksheet_in means n) tables in
+        let tables : book cs' ns' qs' t.values t.worked ≡ book t.constants t.nodes t.assertions t.values t.worked = cc in
+        let worksheet : worksheet_in means n' (book cs' ns' qs' t.values t.worked) ≡ W = cc in
         record {
           too_short = made.too_short;
-          stepped = λ s. let done = go causes (replied s) in record { worksheet = worksheet ∙ sym (ap (λ (x : Worksheet M prover × Reply M). x.0) done); reply = sym (ap (λ (x : Worksheet M prover × Reply M). x.1) done) };
+          stepped = λ s. stepped_by R cap W c (go causes (replied s)) worksheet refl;
           unchanged = λ _ _. (same.0, tables);
           spare_constants = ap (drop n'.constants) same.1;
           spare_nodes = ap (drop n'.nodes) same.2;
@@ -171,7 +170,7 @@ module _ {E M : Type 0} (R : RingOn M) (means : E → M) (cap n : Counts) (t : B
         }
       where
         go : (o : Option ℕ) → p ≡ (step_by R verifier o V (erase c)).1 → step_by R prover o W c ≡ (W, p)
-        go (Some j) e = ap (λ (q : Reply M). (W, q)) (sym e)
+        go (Some j) e = cc
         go None e =
             let v = (perform R S (erase c)).1 in
             let a = (erased R cap S c).answers v in
@@ -200,7 +199,7 @@ module _ {E M : Type 0} (R : RingOn M) (means : E → M) (cap n : Counts) (t : B
           ∙ ap (λ (U : Sheet M). work_out R U ρ' W.worked (drop n.nodes U.nodes)) sheet
           ∙ ap (λ (ρ : List M). work_out R T ρ W.worked (drop n.nodes T.nodes)) given
           ∙ ap (λ k. work_out R T (W.given ++ new_values) W.worked (drop k T.nodes)) first in
-          same_worksheet sheet given worked
+          cc
 
       pub accepted_so : Called R means cap n n' t (book cs' ns' qs' vs' ws') c p
       accepted_so = record {

@@ -21,7 +21,7 @@ use Rattle.prover.specs.declared.Ledger.{Ledger}
 use Rattle.prover.specs.declared.Values.{Values}
 use Rattle.prover.specs.Book.{held, short, worksheet_in, read}
 use Rattle.prover.specs.Called.{Made}
-use Rattle.prover.proofs.Calling.{long, same_worksheet}
+use Rattle.prover.proofs.Calling.{long, stepped_by}
 use Rattle.prover.proofs.Entries.{look_by}
 use Rattle.prover.proofs.WorkingOut.{read_by}
 
@@ -60,10 +60,7 @@ module _ {E M : Type 0} (R : RingOn M) (means : E → M) (o : Builder) (t : Ledg
                 let given : ρ ≡ W.given = ap (λ xs. W.given ++ xs) none ∙ append-nil W.given in
                 let worked : work_out R T ρ W.worked (drop (length S.nodes) T.nodes) ≡ W.worked = ap (λ (A : Answered M). work_out R T ρ W.worked (drop (length S.nodes) A.0.nodes)) performs ∙ ap (work_out R T ρ W.worked) (drop_all (length S.nodes) S.nodes (omega arith)) in
                 let has = ap shown (is ∙ cond-false (short cap b) _ _ s) ∙ ap (λ z. accepted (Some (Native z))) e in
-                record {
-                  worksheet = sym (same_worksheet (ap (λ (A : Answered M). A.0) performs) given worked) ∙ sym (ap (λ (x : Worksheet M prover × Reply M). x.0) done);
-                  reply = has ∙ sym answers ∙ ap (λ (A : Answered M). reply c A.1) (sym performs) ∙ sym (ap (λ (x : Worksheet M prover × Reply M). x.1) done);
-                };
+                stepped_by R cap W c done (cc) (has ∙ sym answers ∙ ap (λ (A : Answered M). reply c A.1) (sym performs));
             unchanged = λ _ _. (refl, refl);
             spare_constants = refl;
             spare_nodes = refl;

@@ -1,33 +1,27 @@
 -- One node more is worked out.
 use Rattle.std.proofs.Common.{◌≡◌, ℕ, ◌+◌, ◌<◌, ◌≤◌, List, [], ◌∷◌, ◌++◌, map, length, get_or, take, drop, set, sym, ap, ◌∙◌, arith}
-use Rattle.std.proofs.lemmas.List.{take_more_set, map_push, drop_more, get_or-take, get_or_default, length-take-le}
+use Rattle.std.proofs.lemmas.List.{take_more_set, map_push, drop_more, get_or-take, length-take-le}
 use Rattle.ring.specs.Algebra.{RingOn}
 use Rattle.worksheet.specs.declared.CircuitIdx.{CircuitIdx}
 use Rattle.worksheet.specs.declared.CircuitNode.{CircuitNode}
 use Rattle.worksheet.specs.declared.Counts.{Counts}
 use Rattle.worksheet.specs.Sheet.{Sheet, combine, left_of, right_of}
 use Rattle.worksheet.specs.Runs.{look, work_out}
-use Rattle.builder.specs.declared.Tables.{Tables}
 use Rattle.prover.specs.Book.{read}
 
 module _ {E M : Type 0} (R : RingOn M) (means : E → M) (S : Sheet M) (ρ : List M) (ns : List CircuitNode) (N : ℕ) (long : N ≤ length ns) (ws : List E) where
   abbrev nds : List CircuitNode
   nds = take N ns
 
-  pub one_more : (k : ℕ) → k < N → k < length ws → (x : E) (nd : CircuitNode) → nd ≡ get_or ns k nd → (let done = map means (take k ws) in means x ≡ combine R nd (look R S ρ done (left_of nd)) (look R S ρ done (right_of nd))) → work_out R S ρ (map means (take (k + 1) (set ws k x))) (drop (k + 1) nds) ≡ work_out R S ρ (map means (take k ws)) (drop k nds)
-  one_more k lt in_ws x nd is worth =
+  pub one_more : (k : ℕ) → k < N → k < length ws → (x : E) (d : CircuitNode) → (let nd = get_or ns k d in let done = map means (take k ws) in means x ≡ combine R nd (look R S ρ done (left_of nd)) (look R S ρ done (right_of nd))) → work_out R S ρ (map means (take (k + 1) (set ws k x))) (drop (k + 1) nds) ≡ work_out R S ρ (map means (take k ws)) (drop k nds)
+  one_more k lt in_ws x d worth =
+      let nd = get_or ns k d in
       let done = map means (take k ws) in
       let under : k < length nds = omega (arith, length-take-le N ns long) in
-      let next : drop k nds ≡ nd ∷ drop (k + 1) nds = drop_more nds k nd under ∙ ap (λ (m : CircuitNode). m ∷ drop (k + 1) nds) (get_or-take N ns k nd lt ∙ sym is) in
+      let next : drop k nds ≡ nd ∷ drop (k + 1) nds = drop_more nds k d under ∙ ap (λ (m : CircuitNode). m ∷ drop (k + 1) nds) (get_or-take N ns k d lt) in
       let grown : map means (take (k + 1) (set ws k x)) ≡ done ++ (combine R nd (look R S ρ done (left_of nd)) (look R S ρ done (right_of nd)) ∷ []) = ap (map means) (take_more_set ws k x in_ws) ∙ map_push means (take k ws) x ∙ ap (λ (y : M). done ++ (y ∷ [])) worth in
       ap (λ (vs : List M). work_out R S ρ vs (drop (k + 1) nds)) grown ∙ sym (ap (λ (ms : List CircuitNode). work_out R S ρ done ms) next)
 
 -- what is read where counts and tables are others of the same content
 pub read_by : {E M : Type 0} (R : RingOn M) (means : E → M) (m n : Counts) (cs cs' vs vs' ws ws' : List E) → m ≡ n → cs ≡ cs' → vs ≡ vs' → ws ≡ ws' → (a : CircuitIdx) → read R means m cs vs ws a ≡ read R means n cs' vs' ws' a
 read_by R means m n cs cs' vs vs' ws ws' p q r s a = cc
-
-pub combine_by : {M : Type 0} (R : RingOn M) (nd : CircuitNode) (f h : CircuitIdx → M) → ((a : CircuitIdx) → f a ≡ h a) → combine R nd (f (left_of nd)) (f (right_of nd)) ≡ combine R nd (h (left_of nd)) (h (right_of nd))
-combine_by R nd f h e = let l = e (left_of nd) in let r = e (right_of nd) in cc
-
-pub node_kept : {E : Type 0} (t t' : Tables E) → t ≡ t' → (k : ℕ) (d : CircuitNode) → k < length t'.nodes.now → get_or t.nodes.now k d ≡ get_or t'.nodes.now k (get_or t.nodes.now k d)
-node_kept t t' same k d lt = ap (λ (s : Tables _). get_or s.nodes.now k d) same ∙ get_or_default t'.nodes.now k d _ lt

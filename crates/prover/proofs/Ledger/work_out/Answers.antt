@@ -1,8 +1,7 @@
-use Rattle.std.proofs.Common.{map, take, ap, ◌∙◌, arith, length-set}
+use Rattle.std.proofs.Common.{map, take, ◌∙◌, arith, length-set}
 use Rattle.std.proofs.lemmas.List.{drop-set-lt}
-use Rattle.builder.specs.declared.Tables.{Tables}
 use Rattle.prover.specs.Book.{of_constants}
-use Rattle.prover.proofs.WorkingOut.{one_more, read_by, combine_by, node_kept}
+use Rattle.prover.proofs.WorkingOut.{one_more}
 use Rattle.prover.proofs.Ledger.work_out.Goals as goal
 
 pub loop-k-preserved : goal.loop-k-preserved
@@ -19,9 +18,8 @@ loop-k-preserved g c =
     let same = c.loop-k.invariant.structure in
     let seen = c.view.ensures in
     let long = c.loop-k.invariant.long in
-    let at = read_by r.algebra r.means _ _ _ _ _ _ _ _ seen.counts (seen.constants ∙ ap (λ (t : Tables _). t.constants.now) same) (seen.values ∙ ap (λ v. v.now) c.loop-k.invariant.handed) seen.worked in
     record {
-      values = one_more r.algebra r.means S ρ was.tables.nodes.now n.nodes (omega arith) ws k (omega arith) (omega arith) x _ (node_kept _ _ same k _ (omega arith)) (c.work-value.ensures ∙ combine_by r.algebra _ _ _ at) ∙ c.loop-k.invariant.values;
+      values = one_more r.algebra r.means S ρ was.tables.nodes.now n.nodes (omega arith) ws k (omega arith) (omega arith) x _ (rw (seen.counts, seen.constants, seen.values, seen.worked, same, c.loop-k.invariant.handed) at c.work-value.ensures) ∙ c.loop-k.invariant.values;
       spare = drop-set-lt n.nodes ws k x (omega arith) ∙ c.loop-k.invariant.spare;
       structure = same;
       handed = c.loop-k.invariant.handed;
