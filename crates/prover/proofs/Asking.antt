@@ -16,12 +16,9 @@ use Rattle.builder.specs.Called.{Called as HalfCalled, Stays as StructureStays, 
 use Rattle.builder.specs.Requests.{Of, OfStructure}
 use Rattle.prover.specs.declared.Ledger.{Ledger}
 use Rattle.prover.specs.Book.{book, held, lacks, worksheet_in}
-use Rattle.prover.specs.Called.{Called, Shaped, Stays, Made}
+use Rattle.prover.specs.Called.{Shaped, Stays, Made}
 use Rattle.prover.specs.Filled.{Filled}
 use Rattle.prover.proofs.Calling.{Handed, refused_so, accepted_so}
-
-pair : {A : Type 0} {x y u v : A} → x ≡ y → u ≡ v → ◌≡◌ {A = A × A} (y, v) (x, u)
-pair p q = cc
 
 module _ {E M : Type 0} (R : RingOn M) (means : E → M) (val : CircuitIdx → M) (x : M) where
   one : {y : M} → x ≡ y → ◌≡◌ {A = List M} (y ∷ []) (x ∷ [])
@@ -62,11 +59,11 @@ module _ {E M : Type 0} (R : RingOn M) (means : E → M) (was is : Builder) (t t
   Half p c = HalfCalled R means was.capacity was.counts is.counts (lacks was.capacity (held t)) t.tables.constants.now t'.tables.constants.now t.tables.nodes.now t'.tables.nodes.now t.tables.assertions.now t'.tables.assertions.now c p
 
   half : (p : Reply M) (c : Call R verifier) → Written p c → Half p c
-  half p c made = subst (λ (b : Bool). HalfCalled R means was.capacity was.counts is.counts b t.tables.constants.now t'.tables.constants.now t.tables.nodes.now t'.tables.nodes.now t.tables.assertions.now t'.tables.assertions.now c p) is_lacking made.called
+  half p c made = rw is_lacking at made.called
 
   pub refused_request : (k : ℕ) → t'.values ≡ t.values → t'.worked ≡ t.worked → Stays was is t t' → OfStructure R means q (Written (refused k)) → Of R means val (λ y. means x ≡ y) q (λ c. Made R means was is t t' c (refused k))
   refused_request k vs ws stays made = of_made R means val (means x) q (Written (refused k)) made (λ c. Made R means was is t t' c (refused k)) (λ c so new. record {
-    called = subst (λ (b : List E × List E). Called R means was.capacity was.counts is.counts (held t) (book t'.tables.constants.now t'.tables.nodes.now t'.tables.assertions.now b.0 b.1) c (refused k)) (pair (ap (λ r. r.now) vs) (ap (λ r. r.now) ws))
+    called = rw (vs, ws)
         (refused_so R means was.capacity was.counts (held t) c is.counts t'.tables.constants.now t'.tables.nodes.now t'.tables.assertions.now (refused k) (half (refused k) (erase c) so) k refl);
     stays = stays;
   })
@@ -93,5 +90,4 @@ module _ {E M : Type 0} (R : RingOn M) (means : E → M) (was is : Builder) (t t
       accepted_then o vs ws (subst (λ (m : Tables E). Then m o) (sym same) (stays, filled', made))
 
   pub shaped_request : (m : Tables E) (p : Reply M) → t'.tables ≡ m → OfStructure R means q (λ c. Structured R means lacking was is t.tables m c p) → OfStructure R means q (λ c. Shaped R means was is t t' c p)
-  shaped_request m p same made =
-      subst (λ (b : Bool). OfStructure R means q (λ c. Structured R means b was is t.tables t'.tables c p)) is_lacking (subst (λ (s : Tables E). OfStructure R means q (λ c. Structured R means lacking was is t.tables s c p)) (sym same) made)
+  shaped_request m p same made = rw (← is_lacking, same) made

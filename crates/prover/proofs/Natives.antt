@@ -23,7 +23,6 @@ use Rattle.prover.specs.Book.{held, short, worksheet_in, read}
 use Rattle.prover.specs.Called.{Made}
 use Rattle.prover.proofs.Calling.{long, stepped_by}
 use Rattle.prover.proofs.Entries.{look_by}
-use Rattle.prover.proofs.WorkingOut.{read_by}
 
 -- in the tables t of the worksheet o
 module _ {E M : Type 0} (R : RingOn M) (means : E → M) (o : Builder) (t : Ledger E) where
@@ -88,7 +87,7 @@ module _ {E M : Type 0} (R : RingOn M) (means : E → M) (o : Builder) (t : Ledg
     seen_by : (a : Var M) → worth (read R means v.counts v.constants.now v.values.now v.worked.now) a ≡ worth val a
     seen_by (Native x) = refl
     seen_by (Circuit i) =
-        read_by R means _ _ _ _ _ _ _ _ (counts ∙ is_n) constants values worked i ∙ look_by R W.sheet W.given W.worked i
+        rw (counts, is_n, constants, values, worked) (look_by R W.sheet W.given W.worked i)
 
     -- the value z of a, which is x
     seen_is : (a x : Var E) → a ≡ x → (z : M) → z ≡ seen a → z ≡ worth_of x

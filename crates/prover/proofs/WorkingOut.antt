@@ -2,12 +2,9 @@
 use Rattle.std.proofs.Common.{◌≡◌, ℕ, ◌+◌, ◌<◌, ◌≤◌, List, [], ◌∷◌, ◌++◌, map, length, get_or, take, drop, set, sym, ap, ◌∙◌, arith}
 use Rattle.std.proofs.lemmas.List.{take_more_set, map_push, drop_more, get_or-take, length-take-le}
 use Rattle.ring.specs.Algebra.{RingOn}
-use Rattle.worksheet.specs.declared.CircuitIdx.{CircuitIdx}
 use Rattle.worksheet.specs.declared.CircuitNode.{CircuitNode}
-use Rattle.worksheet.specs.declared.Counts.{Counts}
 use Rattle.worksheet.specs.Sheet.{Sheet, combine, left_of, right_of}
 use Rattle.worksheet.specs.Runs.{look, work_out}
-use Rattle.prover.specs.Book.{read}
 
 module _ {E M : Type 0} (R : RingOn M) (means : E → M) (S : Sheet M) (ρ : List M) (ns : List CircuitNode) (N : ℕ) (long : N ≤ length ns) (ws : List E) where
   abbrev nds : List CircuitNode
@@ -21,7 +18,3 @@ module _ {E M : Type 0} (R : RingOn M) (means : E → M) (S : Sheet M) (ρ : Lis
       let next : drop k nds ≡ nd ∷ drop (k + 1) nds = drop_more nds k d under ∙ ap (λ (m : CircuitNode). m ∷ drop (k + 1) nds) (get_or-take N ns k d lt) in
       let grown : map means (take (k + 1) (set ws k x)) ≡ done ++ (combine R nd (look R S ρ done (left_of nd)) (look R S ρ done (right_of nd)) ∷ []) = ap (map means) (take_more_set ws k x in_ws) ∙ map_push means (take k ws) x ∙ ap (λ (y : M). done ++ (y ∷ [])) worth in
       ap (λ (vs : List M). work_out R S ρ vs (drop (k + 1) nds)) grown ∙ sym (ap (λ (ms : List CircuitNode). work_out R S ρ done ms) next)
-
--- what is read where counts and tables are others of the same content
-pub read_by : {E M : Type 0} (R : RingOn M) (means : E → M) (m n : Counts) (cs cs' vs vs' ws ws' : List E) → m ≡ n → cs ≡ cs' → vs ≡ vs' → ws ≡ ws' → (a : CircuitIdx) → read R means m cs vs ws a ≡ read R means n cs' vs' ws' a
-read_by R means m n cs cs' vs vs' ws ws' p q r s a = cc
