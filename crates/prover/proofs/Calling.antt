@@ -1,7 +1,8 @@
 -- A call whose structure is written, and then its values, is the step of its definition, and so is one that is refused.
 use Rattle.std.proofs.Common.{◌≡◌, ℕ, ◌+◌, ◌≤◌, false, cond, ltb, ◌⊎◌, List, [], ◌∷◌, ◌++◌, map, length, take, drop, set, Some, None, Option, sym, refl, ap, ◌∙◌, inl, inr, arith}
 use Rattle.std.proofs.lemmas.List.{append-nil, length-take-le, take_more_set, map_push, drop-set-lt}
-use Rattle.std.proofs.lemmas.Bool.{or_parts, ltb-false, cond-true, cond-false, le-ltb, lt-ltb, cases_lt}
+use Rattle.std.proofs.lemmas.Bool.Decides.{nat_tests}
+use Rattle.std.proofs.lemmas.Bool.{cond-true, cond-false, le-ltb, lt-ltb, cases_lt}
 use Rattle.refusal.specs.Outcome.{accepted, refused}
 use Rattle.ring.specs.Algebra.{RingOn}
 use Rattle.worksheet.specs.declared.CircuitIdx.{CircuitIdx}
@@ -89,12 +90,7 @@ pub record Long {E : Type 0} (cap : Counts) (t : Book E) : Type 0 where
   pub assertions : cap.assertions ≤ length t.assertions
 
 pub long : {E : Type 0} (cap : Counts) (t : Book E) → short cap t ≡ false → Long cap t
-long cap t h =
-    let a = or_parts (lacks cap t) _ h in
-    let v = or_parts (ltb (length t.values) cap.witnesses) _ a.0 in
-    let c = or_parts (ltb (length t.constants) cap.constants) _ a.1 in
-    let d = or_parts (ltb (length t.nodes) cap.nodes) _ c.1 in
-    record { values = ltb-false _ _ v.0; worked = ltb-false _ _ v.1; constants = ltb-false _ _ c.0; nodes = ltb-false _ _ d.0; assertions = ltb-false _ _ d.1 }
+long cap t h = grind (arith, nat_tests)
 
 -- the witnesses' values, with one more where one is new
 pub handed : {E M : Type 0} (means : E → M) (vs vs' : List E) (n n' : ℕ) (x : E) (xs : List M) → n' ≤ length vs → n' ≡ n + length xs → Handed (means x) xs → vs' ≡ cond (ltb n n') (set vs n x) vs → map means (take n' vs') ≡ map means (take n vs) ++ xs

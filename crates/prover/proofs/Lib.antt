@@ -1,5 +1,4 @@
 pub mod Entries
-pub mod Assertions
 pub mod WorkingOut
 pub mod Calling
 pub mod Asking
