@@ -2,7 +2,7 @@
 use Rattle.std.proofs.Common.{◌≡◌, ℕ, ◌+◌, ◌≤◌, false, cond, ltb, ◌⊎◌, List, [], ◌∷◌, ◌++◌, map, length, take, drop, set, Some, None, Option, sym, refl, ap, ◌∙◌, inl, inr, arith}
 use Rattle.std.proofs.lemmas.List.{append-nil, length-take-le, take_more_set, map_push, drop-set-lt}
 use Rattle.std.proofs.lemmas.Bool.Decides.{nat_tests}
-use Rattle.std.proofs.lemmas.Bool.{cond-true, cond-false, le-ltb, lt-ltb, cases_lt}
+use Rattle.std.proofs.lemmas.Bool.{cond-true, cond-false, le-ltb, lt-ltb}
 use Rattle.refusal.specs.Outcome.{accepted, refused}
 use Rattle.ring.specs.Algebra.{RingOn}
 use Rattle.worksheet.specs.declared.CircuitIdx.{CircuitIdx}
@@ -110,10 +110,7 @@ handed means vs vs' n n' x xs le count (inr one) is =
 
 -- and what stands past them
 pub past_handed : {E : Type 0} (vs vs' : List E) (n n' : ℕ) (x : E) → vs' ≡ cond (ltb n n') (set vs n x) vs → drop n' vs' ≡ drop n' vs
-past_handed vs vs' n n' x is = elim (cases_lt n n') [
-  | inl lt ↦ ap (drop n') (is ∙ cond-true (ltb n n') _ _ (lt-ltb n n' lt)) ∙ drop-set-lt n' vs n x lt
-  | inr le ↦ ap (drop n') (is ∙ cond-false (ltb n n') _ _ (le-ltb n n' le))
-]
+past_handed vs vs' n n' x is = grind (arith, nat_tests, drop-set-lt)
 
 pub stepped_by : {M : Type 0} (R : RingOn M) (cap : Counts) (W : Worksheet M prover) (c : Call R prover) {W' : Worksheet M prover} {p : Reply M} {x : Worksheet M prover × Reply M} → step R prover cap W c ≡ x → W' ≡ x.0 → p ≡ x.1 → Stepped R prover cap W W' c p
 stepped_by R cap W c done is_worksheet is_reply = record {
