@@ -1,5 +1,5 @@
 -- What holds of the verifier's call of a request holds of the prover's.
-use Rattle.std.proofs.Common.{◌≡◌, ℕ, Bool, List, [], ◌∷◌, Option, sym, refl, ap, ◌∙◌, subst, inl, inr, arith}
+use Rattle.std.proofs.Common.{◌≡◌, ℕ, Bool, Option, sym, refl, ap, ◌∙◌, subst, inl, inr, arith}
 use Rattle.refusal.specs.Outcome.{accepted, refused}
 use Rattle.ring.specs.Algebra.{RingOn}
 use Rattle.worksheet.specs.declared.CircuitIdx.{CircuitIdx}
@@ -12,7 +12,7 @@ use Rattle.builder.specs.declared.Builder.{Builder}
 use Rattle.builder.specs.declared.Tables.{Tables}
 use Rattle.builder.specs.declared.Request.{Request}
 use Rattle.builder.specs.declared.Request.TheVariants.{Constant, Witness, Add, Multiply, Negate, Subtract, DivideBy, DivideId, Invert, AssertEqual, BooleanWitness, BooleanAssert, Not, And, Or, Select}
-use Rattle.builder.specs.Called.{Called as HalfCalled, Stays as StructureStays, Made as Structured}
+use Rattle.builder.specs.Called.{Stays as StructureStays, Made as Structured}
 use Rattle.builder.specs.Requests.{Of, OfStructure}
 use Rattle.prover.specs.declared.Ledger.{Ledger}
 use Rattle.prover.specs.Book.{book, held, lacks, worksheet_in}
@@ -21,23 +21,20 @@ use Rattle.prover.specs.Filled.{Filled}
 use Rattle.prover.proofs.Calling.{Handed, refused_so, accepted_so}
 
 module _ {E M : Type 0} (R : RingOn M) (means : E → M) (val : CircuitIdx → M) (x : M) where
-  one : {y : M} → x ≡ y → ◌≡◌ {A = List M} (y ∷ []) (x ∷ [])
-  one e = cc
-
   -- what holds of the verifier's call, and hands over x, holds of the prover's
   pub of_made : (q : Request E) (Made : Call R verifier → Type 0) → OfStructure R means q Made → (P : Call R prover → Type 0) → ((c : Call R prover) → Made (erase c) → Handed x (fresh R val c) → P c) → Of R means val (λ y. x ≡ y) q P
   of_made (Constant y) Made k P h = h _ k (inl refl)
-  of_made Witness Made k P h = λ y e. h (witness y) (k y tt) (inr (one e))
+  of_made Witness Made k P h = λ y e. h (witness y) (k y tt) (inr (cc))
   of_made (Add a b) Made k P h = h _ k (inl refl)
   of_made (Multiply a b) Made k P h = h _ k (inl refl)
   of_made (Negate a) Made k P h = h _ k (inl refl)
   of_made (Subtract a b) Made k P h = h _ k (inl refl)
-  of_made (DivideBy (Native y) i) Made k P h = λ F e. h (divide F (Native (means y)) (Circuit i)) (k F tt) (inr (one e))
-  of_made (DivideBy (Circuit j) i) Made k P h = λ F e. h (divide F (Circuit j) (Circuit i)) (k F tt) (inr (one e))
-  of_made (DivideId i y) Made k P h = λ F e. h (divide F (Circuit i) (Native (means y))) (k F tt) (inr (one e))
-  of_made (Invert i) Made k P h = λ F e. h (invert F (Circuit i)) (k F tt) (inr (one e))
+  of_made (DivideBy (Native y) i) Made k P h = λ F e. h (divide F (Native (means y)) (Circuit i)) (k F tt) (inr (cc))
+  of_made (DivideBy (Circuit j) i) Made k P h = λ F e. h (divide F (Circuit j) (Circuit i)) (k F tt) (inr (cc))
+  of_made (DivideId i y) Made k P h = λ F e. h (divide F (Circuit i) (Native (means y))) (k F tt) (inr (cc))
+  of_made (Invert i) Made k P h = λ F e. h (invert F (Circuit i)) (k F tt) (inr (cc))
   of_made (AssertEqual a b) Made k P h = (k.0, λ d. h (assert_equal (var_means means a) (var_means means b) d) (k.1 d) (inl refl))
-  of_made BooleanWitness Made k P h = λ b e. h (boolean_witness b) (k b tt) (inr (one e))
+  of_made BooleanWitness Made k P h = λ b e. h (boolean_witness b) (k b tt) (inr (cc))
   of_made (BooleanAssert a) Made k P h = (k.0, λ d. h (boolean_assert (var_means means a) d) (k.1 d) (inl refl))
   of_made (Not a) Made k P h = h _ k (inl refl)
   of_made (And a b) Made k P h = h _ k (inl refl)
@@ -55,16 +52,10 @@ module _ {E M : Type 0} (R : RingOn M) (means : E → M) (was is : Builder) (t t
   abbrev Written : Reply M → Call R verifier → Type 0
   Written p c = Structured R means lacking was is t.tables t'.tables c p
 
-  abbrev Half : Reply M → Call R verifier → Type 0
-  Half p c = HalfCalled R means was.capacity was.counts is.counts (lacks was.capacity (held t)) t.tables.constants.now t'.tables.constants.now t.tables.nodes.now t'.tables.nodes.now t.tables.assertions.now t'.tables.assertions.now c p
-
-  half : (p : Reply M) (c : Call R verifier) → Written p c → Half p c
-  half p c made = rw is_lacking at made.called
-
   pub refused_request : (k : ℕ) → t'.values ≡ t.values → t'.worked ≡ t.worked → Stays was is t t' → OfStructure R means q (Written (refused k)) → Of R means val (λ y. means x ≡ y) q (λ c. Made R means was is t t' c (refused k))
   refused_request k vs ws stays made = of_made R means val (means x) q (Written (refused k)) made (λ c. Made R means was is t t' c (refused k)) (λ c so new. record {
     called = rw (vs, ws)
-        (refused_so R means was.capacity was.counts (held t) c is.counts t'.tables.constants.now t'.tables.nodes.now t'.tables.assertions.now (refused k) (half (refused k) (erase c) so) k refl);
+        (refused_so R means was.capacity was.counts (held t) c is.counts t'.tables.constants.now t'.tables.nodes.now t'.tables.assertions.now (refused k) (rw is_lacking at so.called) k refl);
     stays = stays;
   })
 
@@ -78,7 +69,7 @@ module _ {E M : Type 0} (R : RingOn M) (means : E → M) (was is : Builder) (t t
       let below' = is.below in
       let cap = ap (λ (k : Counts). k.witnesses) h.0.capacity in
       of_made R means val (means x) q (Written (accepted o)) h.2 (λ c. Made R means was is t t' c (accepted o)) (λ c so new. record {
-        called = accepted_so R means was.capacity was.counts (held t) c is.counts t'.tables.constants.now t'.tables.nodes.now t'.tables.assertions.now (accepted o) (half (accepted o) (erase c) so) t'.values.now t'.worked.now x o refl (below.2, omega arith) new h.1;
+        called = accepted_so R means was.capacity was.counts (held t) c is.counts t'.tables.constants.now t'.tables.nodes.now t'.tables.assertions.now (accepted o) (rw is_lacking at so.called) t'.values.now t'.worked.now x o refl (below.2, omega arith) new h.1;
         stays = record { structure = h.0; lent_values = vs; lent_worked = ws };
       })
 
