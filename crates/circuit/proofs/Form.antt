@@ -1,5 +1,5 @@
 -- The verdict is yes exactly when the paper's constraint system holds.
-use Rattle.std.proofs.Common.{◌≡◌, ℕ, zero, suc, ◌+◌, ◌*◌, ◌≤◌, Bool, true, List, [], ◌∷◌, ◌++◌, map, length, get_or, Decides, sym, refl, ap, ◌∙◌, subst, inl, inr, arith}
+use Rattle.std.proofs.Common.{◌≡◌, ℕ, zero, suc, ◌+◌, ◌*◌, ◌≤◌, Bool, true, List, [], ◌∷◌, ◌++◌, map, length, get_or, Decides, sym, refl, ap, ◌∙◌, inl, inr, arith}
 use Rattle.std.specs.List.{range_with_len}
 use Rattle.std.proofs.lemmas.List.FromFn.{get_or-map-range_with_len}
 use Rattle.std.proofs.lemmas.Bool.{cases_lt}
@@ -126,46 +126,33 @@ length_hadamard R n (x ∷ l) [] p q = absurd (omega arith)
 length_hadamard R zero (x ∷ l) (y ∷ r) p q = absurd (omega arith)
 length_hadamard R (suc n) (x ∷ l) (y ∷ r) p q = ap suc (length_hadamard R n l r (omega arith) (omega arith))
 
--- the verdict, with the out that is held, and the paper's constraint system say the same
-module _ {M : Type 0} (R : RingOn M) (m : Matrix M) (c n : ℕ) (v l r o : List M)
+-- the verdict, whose out is left times right, and the paper's constraint system say the same
+module _ {M : Type 0} (R : RingOn M) (m : Matrix M) (c n : ℕ) (v l r : List M)
     (order : in_order m.cells ≡ true) (cover : covers m.height m.width m.cells ≡ true) where
-  abbrev Verdict : Type 0
-  Verdict = Satisfied R m c n v l r × (hadamard R l r ≡ o)
-
   abbrev Paper : Type 0
-  Paper = (m.width ≤ 1 + c + 3 * n) × Holds R (system_of R m c n) v l r o
+  Paper = (m.width ≤ 1 + c + 3 * n) × Holds R (system_of R m c n) v l r (hadamard R l r)
 
-  pub verdict_paper : Verdict → Paper
-  verdict_paper (s, gates) =
-      let rows = subst (λ (t : List M). RowsVanish R m (columns R v l r t)) gates s.rows in (
-        s.fits,
-        record {
-          v_size = s.v_size;
-          left_size = s.left_size;
-          right_size = s.right_size;
-          out_size = subst (λ (t : List M). length t ≡ n) gates (length_hadamard R n l r s.left_size s.right_size);
-          linear = forth R m c n v l r o order cover s.fits s.v_size s.left_size s.right_size rows;
-          gates = gates;
-        },
-      )
+  verdict_paper : Satisfied R m c n v l r → Paper
+  verdict_paper s = (
+    s.fits,
+    record {
+      v_size = s.v_size;
+      left_size = s.left_size;
+      right_size = s.right_size;
+      out_size = length_hadamard R n l r s.left_size s.right_size;
+      linear = forth R m c n v l r (hadamard R l r) order cover s.fits s.v_size s.left_size s.right_size s.rows;
+      gates = refl;
+    },
+  )
 
-  pub paper_verdict : Paper → Verdict
-  paper_verdict (fits, h) =
-      let rows = back R m c n v l r o order cover fits h.v_size h.left_size h.right_size h.linear in (
-        record {
-          v_size = h.v_size;
-          left_size = h.left_size;
-          right_size = h.right_size;
-          fits = fits;
-          rows = subst (λ (t : List M). RowsVanish R m (columns R v l r t)) (sym h.gates) rows;
-        },
-        h.gates,
-      )
+  paper_verdict : Paper → Satisfied R m c n v l r
+  paper_verdict (fits, h) = record {
+    v_size = h.v_size;
+    left_size = h.left_size;
+    right_size = h.right_size;
+    fits = fits;
+    rows = back R m c n v l r (hadamard R l r) order cover fits h.v_size h.left_size h.right_size h.linear;
+  }
 
-  pub decides_paper : (b : Bool) → Decides b Verdict → Decides b Paper
-  decides_paper b says = Decides-like b verdict_paper paper_verdict says
-
--- the same of the verdict alone, whose out is left times right
-pub decides_filled : {M : Type 0} (R : RingOn M) (m : Matrix M) (c n : ℕ) (v l r : List M) → in_order m.cells ≡ true → covers m.height m.width m.cells ≡ true → (b : Bool) → Decides b (Satisfied R m c n v l r) → Decides b ((m.width ≤ 1 + c + 3 * n) × Holds R (system_of R m c n) v l r (hadamard R l r))
-decides_filled R m c n v l r order cover b says =
-    decides_paper R m c n v l r (hadamard R l r) order cover b (λ y. (says.0 y, refl), λ s. says.1 s.0)
+  pub decides_filled : (b : Bool) → Decides b (Satisfied R m c n v l r) → Decides b Paper
+  decides_filled b says = Decides-like b verdict_paper paper_verdict says

@@ -1,6 +1,6 @@
 -- One running sum over cells in order decides whether each row's sum is zero.
-use Rattle.std.proofs.Common.{◌≡◌, ℕ, zero, suc, ◌+◌, ◌<◌, ◌≤◌, Bool, List, [], ◌∷◌, ◌++◌, length, get_or, take, drop, Decides, sym, refl, ap, ◌∙◌, subst, inl, inr, arith}
-use Rattle.std.proofs.lemmas.List.{length-map, take_more, drop_more, take-append-drop, take_all, get_or-map}
+use Rattle.std.proofs.Common.{◌≡◌, ℕ, zero, suc, ◌+◌, ◌<◌, ◌≤◌, List, [], ◌∷◌, ◌++◌, length, get_or, take, drop, sym, refl, ap, ◌∙◌, subst, inl, inr, arith}
+use Rattle.std.proofs.lemmas.List.{length-map, take_more, drop_more, take-append-drop, get_or-map}
 use Rattle.std.proofs.lemmas.Bool.{cases_eq}
 use Rattle.std.proofs.lemmas.Bool.Decides.{nat_tests}
 use Rattle.ring.specs.Algebra.{RingOn}
@@ -97,16 +97,6 @@ module _ {M : Type 0} (R : RingOn M) (list : List M) where
         let le = here.0 in
         let past : From (suc row) (drop k xs) = subst (From (suc row)) (sym split) (omega arith, from_more (suc row) x.row (drop (k + 1) xs) (omega arith) rest) in
         bad (so_far.sum ∙ sym (R.plus_nought _) ∙ ap (R.plus (sum_of row (take k xs))) (sym (sum_none row (drop k xs) past)) ∙ sym (row_sum_append R list row (take k xs) (drop k xs)) ∙ ap (sum_of row) (take-append-drop k xs) ∙ all row)
-
-  pub ends : (xs : List (Cell M)) (k row : ℕ) (s : M) (r : Bool) → Progress xs k row s → length xs ≤ k → Decides r (s ≡ R.nought) → Decides r ((i : ℕ) → row_sum R list i xs ≡ R.nought)
-  ends xs k row s r so_far le says =
-      let whole : take k xs ≡ xs = take_all k xs le in (
-        λ yes i. elim (cases_eq i row) [
-          | inl q ↦ ap (λ n. sum_of n xs) q ∙ ap (sum_of row) (sym whole) ∙ sym so_far.sum ∙ says.0 yes
-          | inr q ↦ ap (sum_of i) (sym whole) ∙ so_far.others i q
-        ],
-        λ all. says.1 (so_far.sum ∙ ap (sum_of row) whole ∙ all row),
-      )
 
 -- the meaning of the cell at the place k
 pub cell_at : {E M : Type 0} (means : E → M) (cells : List (Cell E)) (k : ℕ) (x : Cell E) → k < length cells → x ≡ get_or cells k x → (k < length (meant means cells)) × (cell x.row x.column (means x.weight) ≡ get_or (meant means cells) k (cell x.row x.column (means x.weight)))

@@ -1,33 +1,28 @@
-use Rattle.std.proofs.Common.{◌∙◌, arith}
-use Rattle.circuit.proofs.Filled.{in_values, in_left, in_right, in_out, past_all}
+use Rattle.std.proofs.Common.{◌-◌, length, ap, sym, ◌∙◌, arith}
+use Rattle.std.proofs.lemmas.Grind.{common_steps}
+use Rattle.std.proofs.lemmas.List.{get_or-map}
+use Rattle.ring.proofs.Laws.{nought_times, times_nought}
+use Rattle.circuit.proofs.Filled.{out_at}
 use Rattle.circuit.proofs.Columns.entry.Goals as goal
-
-pub returns-then-k-values : goal.returns-then-k-values
-returns-then-k-values g c =
-    let m = g.E.Ring in
-    let a = c.args in
-    in_values m.algebra m.means a.self.now.values.now a.self.now.left.now a.self.now.right.now a.k (omega arith) c.index-values-k.result (omega arith) c.index-values-k.is
-
-pub returns-then-k-left : goal.returns-then-k-left
-returns-then-k-left g c =
-    let m = g.E.Ring in
-    let a = c.args in
-    in_left m.algebra m.means a.self.now.values.now a.self.now.left.now a.self.now.right.now a.k (omega arith) (omega arith) c.index-left-k.result (omega arith) c.index-left-k.is
-
-pub returns-then-k-right : goal.returns-then-k-right
-returns-then-k-right g c =
-    let m = g.E.Ring in
-    let a = c.args in
-    in_right m.algebra m.means a.self.now.values.now a.self.now.left.now a.self.now.right.now a.k (omega arith) (omega arith) (omega arith) c.index-right-k.result (omega arith) c.index-right-k.is
 
 pub returns-then-k-right-2 : goal.returns-then-k-right-2
 returns-then-k-right-2 g c =
     let m = g.E.Ring in
     let a = c.args in
-    c.multiply.ensures ∙ in_out m.algebra m.means a.self.now.values.now a.self.now.left.now a.self.now.right.now a.k (omega arith) (omega arith) (omega arith) (omega arith) c.index-left-k-then-k-right-2.result c.index-right-k-then-k-right-2.result (omega arith) (omega arith) c.index-left-k-then-k-right-2.is c.index-right-k-then-k-right-2.is
+    let self = a.self.now in
+    let out = out_at m.algebra m.means self.values.now self.left.now self.right.now a.k (omega arith) in
+    let x = c.index-left-k-then-k-right-2.result in
+    let y = c.index-right-k-then-k-right-2.result in
+    let j = a.k - 1 - length self.values.now - length self.left.now - length self.right.now in
+    let l = get_or-map m.means self.left.now j x m.algebra.nought (omega arith) ∙ ap m.means (sym c.index-left-k-then-k-right-2.is) in
+    let r = get_or-map m.means self.right.now j y m.algebra.nought (omega arith) ∙ ap m.means (sym c.index-right-k-then-k-right-2.is) in
+    let p = c.multiply.ensures in
+    cc
 
 pub returns : goal.returns
 returns g c =
     let m = g.E.Ring in
     let a = c.args in
-    c.zero.ensures ∙ past_all m.algebra m.means a.self.now.values.now a.self.now.left.now a.self.now.right.now a.k (omega arith) (omega arith) (omega arith) (omega arith) (grind (arith, c.else-k-left-2.either))
+    let self = a.self.now in
+    let out = out_at m.algebra m.means self.values.now self.left.now self.right.now a.k (omega arith) in
+    grind (arith, common_steps, out, c.else-k-left-2.either, nought_times, times_nought)

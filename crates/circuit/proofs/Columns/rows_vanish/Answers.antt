@@ -1,11 +1,10 @@
 use Rattle.std.proofs.Common.{◌≡◌, map, sym, ap, ◌∙◌, arith}
-use Rattle.std.proofs.lemmas.List.{length-map}
 use Rattle.std.proofs.lemmas.Bool.{both_ways, false≢true}
 use Rattle.matrix.specs.declared.Cell.{Cell}
 use Rattle.matrix.specs.Cells.{cell, meant, entry}
 use Rattle.matrix.proofs.Order.{order_holds, order_meant}
 use Rattle.circuit.specs.Verdict.{filled}
-use Rattle.circuit.proofs.Running.{moved, start, same_row, new_row, fails, ends, cell_at}
+use Rattle.circuit.proofs.Running.{moved, start, same_row, new_row, fails, cell_at}
 use Rattle.circuit.proofs.Columns.rows_vanish.Goals as goal
 use Rattle.circuit.proofs.Columns.rows_vanish.Goals.{then-cell-row+else-not-equal, else-cell-row}
 
@@ -50,12 +49,3 @@ returns-then-not-equal g c =
       λ all. absurd (fails A list _ order c.loop-cell.cell-index c.loop-cell.row _ c.loop-cell.invariant (cell x.row x.column (m.means x.weight)) at.0 at.1 c.if-cell-row.true
           (λ none. both_ways _ c.if-not-equal.true (c.equal.ensures.no (none ∙ sym c.zero-zero.ensures))) all),
     )
-
-pub returns : goal.returns
-returns g c =
-    let m = g.E.Ring in
-    let a = c.args in
-    let A = m.algebra in
-    let list = filled A (map m.means a.self.now.values.now) (map m.means a.self.now.left.now) (map m.means a.self.now.right.now) in
-    ends A list (meant m.means a.cells.now) c.loop-cell.cell-index c.loop-cell.row _ c.equal-2.result c.loop-cell.invariant (simp length-map (omega arith))
-    (λ yes'. c.equal-2.ensures.yes yes' ∙ c.zero-zero.ensures, λ none. c.equal-2.ensures.no (none ∙ sym c.zero-zero.ensures))
