@@ -55,9 +55,6 @@ module _ {M : Type 0} (R : RingOn M) (list : List M) where
     pub others : (i : ℕ) → (i ≡ row → ⊥) → row_sum R list i (take k xs) ≡ R.nought
     pub above : From row (drop k xs)
 
-  pub moved : (xs : List (Cell M)) (k r t : ℕ) (s u : M) → Progress xs k r s → t ≡ r → u ≡ s → Progress xs k t u
-  moved xs k r t s u h p q = subst (λ (n : ℕ). Progress xs k n u) (sym p) (subst (λ (v : M). Progress xs k r v) (sym q) h)
-
   pub start : (xs : List (Cell M)) (s : M) → s ≡ R.nought → Progress xs 0 0 s
   start xs s h = record { sum = h; others = λ i _. refl; above = from_zero xs }
 

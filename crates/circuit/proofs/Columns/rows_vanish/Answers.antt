@@ -4,7 +4,7 @@ use Rattle.matrix.specs.declared.Cell.{Cell}
 use Rattle.matrix.specs.Cells.{cell, meant, entry}
 use Rattle.matrix.proofs.Order.{order_holds, order_meant}
 use Rattle.circuit.specs.Verdict.{filled}
-use Rattle.circuit.proofs.Running.{moved, start, same_row, new_row, fails, cell_at}
+use Rattle.circuit.proofs.Running.{start, same_row, new_row, fails, cell_at}
 use Rattle.circuit.proofs.Columns.rows_vanish.Goals as goal
 use Rattle.circuit.proofs.Columns.rows_vanish.Goals.{then-cell-row+else-not-equal, else-cell-row}
 
@@ -29,11 +29,8 @@ loop-cell-preserved g c =
     elim c.if-cell-row.branch [
       | then-cell-row+else-not-equal w ↦
           let none = w.equal.ensures.yes w.if-not-equal.false ∙ z in
-          moved A list xs _ _ _ _ _ (new_row A list xs order c.loop-cell.cell-index c.loop-cell.row _ c.loop-cell.invariant e at.0 at.1 w.if-cell-row.true none (m.means c.zero-zero.result) z)
-          w.row-is (added ∙ ap (λ y. A.plus (m.means y) term) w.sum-is)
-      | else-cell-row w ↦
-          moved A list xs _ _ _ _ _ (same_row A list xs order c.loop-cell.cell-index c.loop-cell.row _ c.loop-cell.invariant e at.0 at.1 w.if-cell-row.false)
-          w.row-is (added ∙ ap (λ y. A.plus (m.means y) term) w.sum-is)
+          rw (w.row-is, added, w.sum-is) (new_row A list xs order c.loop-cell.cell-index c.loop-cell.row _ c.loop-cell.invariant e at.0 at.1 w.if-cell-row.true none (m.means c.zero-zero.result) z)
+      | else-cell-row w ↦ rw (w.row-is, added, w.sum-is) (same_row A list xs order c.loop-cell.cell-index c.loop-cell.row _ c.loop-cell.invariant e at.0 at.1 w.if-cell-row.false)
     ]
 
 pub returns-then-not-equal : goal.returns-then-not-equal
