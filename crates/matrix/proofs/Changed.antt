@@ -119,7 +119,7 @@ module _ {M : Type 0} (R : RingOn M) (list : List M) (i r c : ℕ) (w : M) where
   made = ap (part r c) (nought_plus R w)
 
   swap_last : (a s t : M) → R.plus (R.plus a s) t ≡ R.plus (R.plus a t) s
-  swap_last a s t = R.plus_assoc a s t ∙ ap (R.plus a) (R.plus_comm s t) ∙ sym (R.plus_assoc a t s)
+  swap_last a s t = let p = R.plus_assoc a s t in let q = R.plus_assoc a t s in let r = R.plus_comm s t in cc
 
   pub row_sum_added : (xs : List (Cell M)) → row_sum R list i (changed R r c (λ u. R.plus u w) xs) ≡ R.plus (row_sum R list i xs) (part r c w)
   row_sum_added [] = ap (λ m. R.plus m R.nought) made ∙ R.plus_comm (part r c w) R.nought

@@ -1,5 +1,5 @@
 -- What setting the weight that a change would make is, and what an accepted change is to the weights and the sums of rows.
-use Rattle.std.proofs.Common.{◌≡◌, ℕ, ◌+◌, cond, ◌&&◌, ◌||◌, ltb, length, IfOk, Ok, Err, Result, ap, ◌∙◌, inl, inr, arith}
+use Rattle.std.proofs.Common.{◌≡◌, ℕ, ◌+◌, cond, ◌&&◌, ◌||◌, ltb, length, IfOk, Ok, Err, Result, ap, ◌∙◌, inl, inr}
 use Rattle.std.proofs.lemmas.Bool.{cases_Bool, cond-true, cond-false}
 use Rattle.refusal.specs.declared.Refusal.{Refusal}
 use Rattle.refusal.specs.Outcome.{accepted, refused, outcome}
@@ -22,9 +22,9 @@ module _ {M : Type 0} (R : RingOn M) (room r c : ℕ) (f : M → M) (m : Matrix 
       elim (cases_Bool (ltb r limit && ltb c limit)) [
         | inl p ↦ elim (cases_Bool (present r c m.cells || ltb (length m.cells) room)) [
           | inl q ↦ let same : n ≡ through R r c f m = let h = e ∙ cond-true _ _ _ p ∙ cond-true _ _ _ q in cc in ap (λ (k : Matrix M). k.cells) same
-          | inr q ↦ absurd (let h = e ∙ cond-true _ _ _ p ∙ cond-false _ _ _ q in let z : ◌≡◌ {A = ℕ} 0 1 = cc in omega arith)
+          | inr q ↦ absurd (let h = e ∙ cond-true _ _ _ p ∙ cond-false _ _ _ q in cc)
         ]
-        | inr p ↦ absurd (let h = e ∙ cond-false _ _ _ p in let z : ◌≡◌ {A = ℕ} 0 1 = cc in omega arith)
+        | inr p ↦ absurd (let h = e ∙ cond-false _ _ _ p in cc)
       ]
 
   pub weights_of : (answer : Result (Unit {0}) Refusal) (n : Matrix M) → Ordered m.cells → outcome (λ _. n) answer ≡ touched R room r c f m → IfOk answer (λ _. WeightThrough R r c f m n)

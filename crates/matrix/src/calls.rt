@@ -39,6 +39,7 @@ impl<'a, E: Ring> SparseMatrix<'a, E> {
     }
 
     // Raises width and height to these sizes, where they are lower.
+    #[tactic(auto, using(crate::proofs::Order::covers_more))]
     pub fn pad(&mut self, width: u32, height: u32) -> Result<(), Refusal>
         ensures answer { outcome (λ _. matrix E.means self.new) result ≡ padded width height (matrix E.means self.old) }
         ensures refused { OnErr result (Unchanged self.old self.new) }

@@ -1,4 +1,4 @@
-use Rattle.std.proofs.Common.{◌<◌, ◌≤◌, length, take, refl, ap, sym, ◌∙◌, arith, length-set, length-take-le, rules}
+use Rattle.std.proofs.Common.{◌<◌, ◌≤◌, length, take, ap, sym, ◌∙◌, arith, length-set, length-take-le, rules}
 use Rattle.std.proofs.Math.Seq.{take-set-lt}
 use Rattle.std.proofs.lemmas.List.{drop-set-lt}
 use Rattle.std.proofs.lemmas.Bool.{le-ltb, or_left, or_from}
@@ -27,12 +27,12 @@ returns-in-Ok g c =
       };
     }
 
-pub returns-then-count-cells : goal.returns-then-count-cells
-returns-then-count-cells g c =
+pub returns-then-count-cells-clause-verdict : goal.returns-then-count-cells-clause-verdict
+returns-then-count-cells-clause-verdict g c =
     let m = g.E.Ring in
     let a = c.args in
     let told = at_gap m.algebra m.means a.cell.row a.cell.column _ c.in-Err.at a.cell.weight (rw c.in-Err.is at c.requires.place) in
-    record { verdict = sym (or_from _ _ told.there (le-ltb _ _ (omega arith))); done = (refl, refl) }
+    sym (or_from _ _ told.there (le-ltb _ _ (omega arith)))
 
 pub returns-else-count-cells-clause-done : goal.returns-else-count-cells-clause-done
 returns-else-count-cells-clause-done g c =
