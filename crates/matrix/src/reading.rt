@@ -38,6 +38,7 @@ impl<'a, E> SparseMatrix<'a, E> {
 
 impl<'a, E: Ring> SparseMatrix<'a, E> {
     // The weight at a row and a column, zero where there is no cell.
+    #[tactic(auto, using(crate::proofs::Held::weight_found))]
     pub fn get(&self, row: u32, column: u32) -> E
         ensures { E.means result ≡ weight_at E.algebra row column (matrix E.means self.now).cells }
     {

@@ -6,6 +6,7 @@ use super::Cell;
 use ring::Ring;
 
 // Writes the sum of each row of the cells: weight times the list's entry at the column.
+#[tactic(auto, using(crate::proofs::RowSums::row_within))]
 pub fn accumulate<E: Ring>(cells: &[Cell<E>], list: &[E], res: &mut [E])
     requires { (w : ℕ) × (covers (length res.old) w cells.now ≡ true) }
     ensures { map E.means res.new ≡ product E.algebra (map E.means list.now) (length res.new) (meant E.means cells.now) }

@@ -10,17 +10,6 @@ use Rattle.matrix.proofs.sums.accumulate.Goals.{in-Some, in_default}
 pub loop-cell-init : goal.loop-cell-init
 loop-cell-init g c = let r = g.E.Ring in filled _ (λ x. r.means x ≡ r.algebra.nought) (λ p x q called. search rules) _ _ _ c.fill_with.ensures.ran.1
 
-pub offset_bounds-res-cell : goal.offset_bounds-res-cell
-offset_bounds-res-cell g c =
-    let row = row_within (length c.args.res.now) c.requires.0 c.args.cells.now c.loop-cell.cell-index c.cell-item.result c.requires.1 (omega arith) c.cell-item.is in
-    let under : c.cell-item.result.row < length c.loop-cell.res = omega arith in
-    search rules
-
-pub bounds-res-cell : goal.bounds-res-cell
-bounds-res-cell g c =
-    let row = row_within (length c.args.res.now) c.requires.0 c.args.cells.now c.loop-cell.cell-index c.cell-item.result c.requires.1 (omega arith) c.cell-item.is in
-    omega arith
-
 pub loop-cell-preserved : goal.loop-cell-preserved
 loop-cell-preserved g c =
     let r = g.E.Ring in
