@@ -112,6 +112,7 @@ handed means vs vs' n n' x xs le count (inr one) is =
 pub past_handed : {E : Type 0} (vs vs' : List E) (n n' : ℕ) (x : E) → vs' ≡ cond (ltb n n') (set vs n x) vs → drop n' vs' ≡ drop n' vs
 past_handed vs vs' n n' x is = grind (arith, nat_tests, drop-set-lt)
 
+-- a step that is found to be x
 pub stepped_by : {M : Type 0} (R : RingOn M) (cap : Counts) (W : Worksheet M prover) (c : Call R prover) {W' : Worksheet M prover} {p : Reply M} {x : Worksheet M prover × Reply M} → step R prover cap W c ≡ x → W' ≡ x.0 → p ≡ x.1 → Stepped R prover cap W W' c p
 stepped_by R cap W c done is_worksheet is_reply = record {
   worksheet = is_worksheet ∙ sym (ap (λ (y : Worksheet _ prover × Reply _). y.0) done);

@@ -1,4 +1,4 @@
--- Calls that answer a native append nothing.
+-- Calls that answer a native append nothing, and what quotients and inverses are worth.
 use Rattle.std.proofs.Common.{◌≡◌, ◌≤◌, true, false, cond, [], ◌++◌, length, take, drop, Some, Ok, Err, Result, sym, refl, ap, ◌∙◌, ap₂, subst, arith}
 use lib.ListN.{length-map}
 use Rattle.std.proofs.lemmas.List.{append-nil, length-take-le, drop_all}
@@ -86,8 +86,7 @@ module _ {E M : Type 0} (R : RingOn M) (means : E → M) (o : Builder) (t : Ledg
 
     seen_by : (a : Var M) → worth (read R means v.counts v.constants.now v.values.now v.worked.now) a ≡ worth val a
     seen_by (Native x) = refl
-    seen_by (Circuit i) =
-        rw (counts, is_n, constants, values, worked) (look_by R W.sheet W.given W.worked i)
+    seen_by (Circuit i) = rw (counts, is_n, constants, values, worked) (look_by R W.sheet W.given W.worked i)
 
     -- the value z of a, which is x
     seen_is : (a x : Var E) → a ≡ x → (z : M) → z ≡ seen a → z ≡ worth_of x
