@@ -1,7 +1,6 @@
 -- Calls that answer a native append nothing, and what quotients and inverses are worth.
 use Rattle.std.proofs.Common.{◌≡◌, ◌≤◌, true, false, cond, [], ◌++◌, length, take, drop, Some, Ok, Err, Result, sym, refl, ap, ◌∙◌, ap₂, subst, arith}
-use lib.ListN.{length-map}
-use Rattle.std.proofs.lemmas.List.{append-nil, length-take-le, drop_all}
+use Rattle.std.proofs.lemmas.List.{length-map, append-nil, length-take-le, drop_all}
 use Rattle.std.proofs.lemmas.Bool.{cond-true, cond-false}
 use Rattle.refusal.specs.declared.Refusal.{Refusal}
 use Rattle.refusal.specs.declared.Refusal.TheVariants.{ShortTable}
