@@ -12,7 +12,7 @@ pub struct Bit {
 }
 
 impl Bit {
-    // Named as the other rings' elements are made.
+    // `new`, as a public call by this name; a `From` would be its second name.
     pub fn new(value: bool) -> Bit
         ensures { result.value ≡ value }
     {

@@ -4,4 +4,3 @@ pub mod Tables
 pub mod Called
 pub mod Admission
 pub mod Requests
-pub mod Booleans

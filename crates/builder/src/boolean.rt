@@ -4,10 +4,10 @@ ghost use Rattle.refusal.specs.Outcome.{outcome};
 ghost use Rattle.worksheet.specs.declared.Var.TheVariants.{Native};
 ghost use Rattle.worksheet.specs.Calls.{var_means};
 ghost use Rattle.worksheet.specs.Runs.{bit, assert_equal as assert_call, boolean_assert as boolean_assert_call, boolean_not as boolean_not_call, boolean_and as boolean_and_call, boolean_or as boolean_or_call, select as select_call, Settled, native_square};
-ghost use Rattle.builder.specs.Booleans.{request_of};
+ghost use Rattle.builder.specs.declared.Request.TheVariants.{BooleanWitness};
 ghost use Rattle.builder.specs.Requests.{Of, OfStructure, Compared, shown};
 
-use super::{BoolRequest, BoolVar, Open, Request, Role};
+use super::{BoolVar, Open, Request, Role};
 use refusal::Refusal;
 use ring::Ring;
 use worksheet::Var;
@@ -36,36 +36,22 @@ impl<E: Ring> BoolVar<E> {
     }
 }
 
-impl<E: Copy> From<BoolRequest<E>> for Request<E> {
-    ghost from_gives = { λ b q. q ≡ request_of b };
-
-    fn from(request: BoolRequest<E>) -> Request<E> {
-        match request {
-            BoolRequest::Witness => Request::BooleanWitness,
-            BoolRequest::Assert(a) => Request::BooleanAssert(a),
-            BoolRequest::Not(a) => Request::Not(a.var),
-            BoolRequest::And(a, b) => Request::And(a.var, b.var),
-            BoolRequest::Or(a, b) => Request::Or(a.var, b.var),
-        }
-    }
-}
-
 impl<R> Open<R> {
-    // Makes a call that answers a variable that is zero or one. A witness that it appends is handed `fresh`.
-    pub fn boolean<E: Ring, T>(
+    // A witness that is asserted to be zero or one, handed `fresh`; for the role's own crate, as `call`.
+    pub fn bit_witness<E: Ring, T>(
         &mut self,
+        role: &R,
         tables: &mut T,
-        request: BoolRequest<E>,
         fresh: E,
     ) -> Result<BoolVar<E>, Refusal>
     where
         R: Role<E, T>,
-        ensures called { Of E.algebra E.means (R.values E.Member E.algebra E.means self.old.builder tables.old) (R.Hands E.Member (E.means fresh)) (request_of request) (λ c. R.Does E.Member E.algebra E.means self.old.builder self.new.builder tables.old tables.new c (outcome (λ v. shown E.algebra E.means (request_of request) (var_means E.means v.var)) result)) }
-        ensures shaped { OfStructure E.algebra E.means (request_of request) (λ c. R.Shapes E.Member E.algebra E.means self.old.builder self.new.builder tables.old tables.new c (outcome (λ v. shown E.algebra E.means (request_of request) (var_means E.means v.var)) result)) }
+        ensures called { Of E.algebra E.means (R.values E.Member E.algebra E.means self.old.builder tables.old) (R.Hands E.Member (E.means fresh)) BooleanWitness (λ c. R.Does E.Member E.algebra E.means self.old.builder self.new.builder tables.old tables.new c (outcome (λ v. Some (var_means E.means v.var)) result)) }
+        ensures shaped { OfStructure E.algebra E.means BooleanWitness (λ c. R.Shapes E.Member E.algebra E.means self.old.builder self.new.builder tables.old tables.new c (outcome (λ v. Some (var_means E.means v.var)) result)) }
         ensures stays { R.Stays self.old.builder self.new.builder tables.old tables.new }
         ensures written { R.Writes E.Member E.algebra E.means self.old.builder self.new.builder tables.old tables.new fresh (is_ok result) }
     {
-        let var = self.call(tables, Request::from(request), fresh)?;
+        let var = self.call(role, tables, Request::BooleanWitness, fresh)?;
         Ok(BoolVar { var })
     }
 
@@ -79,7 +65,8 @@ impl<R> Open<R> {
         R: Role<E, T>,
         ensures { Compared (Settled (native_square E.algebra (var_means E.means a)) (var_means E.means a)) (λ d. R.Does E.Member E.algebra E.means self.old.builder self.new.builder tables.old tables.new (boolean_assert_call (var_means E.means a) d) (outcome (λ v. Some (var_means E.means v.var)) result)) }
     {
-        self.boolean(tables, BoolRequest::Assert(a), E::zero())
+        let var = self.make(tables, Request::BooleanAssert(a))?;
+        Ok(BoolVar { var })
     }
 
     pub fn not<E: Ring, T>(&mut self, tables: &mut T, a: BoolVar<E>) -> Result<BoolVar<E>, Refusal>
@@ -87,7 +74,8 @@ impl<R> Open<R> {
         R: Role<E, T>,
         ensures { R.Does E.Member E.algebra E.means self.old.builder self.new.builder tables.old tables.new (boolean_not_call (var_means E.means a.var)) (outcome (λ v. Some (var_means E.means v.var)) result) }
     {
-        self.boolean(tables, BoolRequest::Not(a), E::zero())
+        let var = self.make(tables, Request::Not(a.var))?;
+        Ok(BoolVar { var })
     }
 
     pub fn and<E: Ring, T>(
@@ -100,7 +88,8 @@ impl<R> Open<R> {
         R: Role<E, T>,
         ensures { R.Does E.Member E.algebra E.means self.old.builder self.new.builder tables.old tables.new (boolean_and_call (var_means E.means a.var) (var_means E.means b.var)) (outcome (λ v. Some (var_means E.means v.var)) result) }
     {
-        self.boolean(tables, BoolRequest::And(a, b), E::zero())
+        let var = self.make(tables, Request::And(a.var, b.var))?;
+        Ok(BoolVar { var })
     }
 
     pub fn or<E: Ring, T>(
@@ -113,7 +102,8 @@ impl<R> Open<R> {
         R: Role<E, T>,
         ensures { R.Does E.Member E.algebra E.means self.old.builder self.new.builder tables.old tables.new (boolean_or_call (var_means E.means a.var) (var_means E.means b.var)) (outcome (λ v. Some (var_means E.means v.var)) result) }
     {
-        self.boolean(tables, BoolRequest::Or(a, b), E::zero())
+        let var = self.make(tables, Request::Or(a.var, b.var))?;
+        Ok(BoolVar { var })
     }
 
     pub fn boolean_assert_equal<E: Ring, T>(
@@ -141,6 +131,6 @@ impl<R> Open<R> {
         R: Role<E, T>,
         ensures { R.Does E.Member E.algebra E.means self.old.builder self.new.builder tables.old tables.new (select_call (var_means E.means b.var) (var_means E.means t) (var_means E.means f)) (outcome (λ v. Some (var_means E.means v)) result) }
     {
-        self.call(tables, Request::Select(b.var, t, f), E::zero())
+        self.make(tables, Request::Select(b.var, t, f))
     }
 }

@@ -9,16 +9,27 @@ use super::requests::{clashes, cost_of};
 use super::{Builder, Draft, Request, Tables};
 use refusal::Refusal;
 use ring::Ring;
-use worksheet::{Counts, Var};
+use worksheet::{CircuitIdx, CircuitNode, Counts, Var};
+
+// Whether a table is shorter than its capacity.
+pub fn are_short<E>(
+    capacity: Counts,
+    constants: &[E],
+    nodes: &[CircuitNode],
+    assertions: &[(CircuitIdx, CircuitIdx)],
+) -> bool
+    ensures { result ≡ short capacity constants.now nodes.now assertions.now }
+{
+    constants.len() < capacity.constants as usize
+        || nodes.len() < capacity.nodes as usize
+        || assertions.len() < capacity.assertions as usize
+}
 
 impl<'a, E> Tables<'a, E> {
-    // Whether a table is shorter than its capacity.
     pub fn are_short(&self, capacity: Counts) -> bool
         ensures { result ≡ short capacity self.now.constants.now self.now.nodes.now self.now.assertions.now }
     {
-        self.constants.len() < capacity.constants as usize
-            || self.nodes.len() < capacity.nodes as usize
-            || self.assertions.len() < capacity.assertions as usize
+        are_short(capacity, self.constants, self.nodes, self.assertions)
     }
 }
 

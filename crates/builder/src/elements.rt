@@ -13,9 +13,12 @@ use ring::Ring;
 use worksheet::Var;
 
 impl<R> Open<R> {
-    // Makes a builder call that is given as a value. A witness that it appends is handed `fresh`.
+    // Makes a builder call that is given as a value. A witness that it appends is handed `fresh`. It takes a value of
+    // the role, which the role's own crate alone can make, so that no one else hands over another value than the
+    // call's.
     pub fn call<E: Ring, T>(
         &mut self,
+        _role: &R,
         tables: &mut T,
         request: Request<E>,
         fresh: E,
@@ -28,6 +31,19 @@ impl<R> Open<R> {
         ensures written { R.Writes E.Member E.algebra E.means self.old.builder self.new.builder tables.old tables.new fresh (is_ok result) }
     {
         R::call(&mut self.builder, tables, &request, fresh)
+    }
+
+    // Makes a call that hands no witness a value.
+    pub(super) fn make<E: Ring, T>(
+        &mut self,
+        tables: &mut T,
+        request: Request<E>,
+    ) -> Result<Var<E>, Refusal>
+    where
+        R: Role<E, T>,
+        ensures { Of E.algebra E.means (R.values E.Member E.algebra E.means self.old.builder tables.old) (R.Hands E.Member E.algebra.nought) request (λ c. R.Does E.Member E.algebra E.means self.old.builder self.new.builder tables.old tables.new c (outcome (λ v. shown E.algebra E.means request (var_means E.means v)) result)) }
+    {
+        R::call(&mut self.builder, tables, &request, E::zero())
     }
 
     // Refuses where a table is short, and else answers a native that appends nothing.
@@ -48,7 +64,7 @@ impl<R> Open<R> {
         R: Role<E, T>,
         ensures { R.Does E.Member E.algebra E.means self.old.builder self.new.builder tables.old tables.new (constant_call (E.means x)) (outcome (λ v. Some (var_means E.means v)) result) }
     {
-        self.call(tables, Request::Constant(x), E::zero())
+        self.make(tables, Request::Constant(x))
     }
 
     pub fn add<E: Ring, T>(
@@ -61,7 +77,7 @@ impl<R> Open<R> {
         R: Role<E, T>,
         ensures { R.Does E.Member E.algebra E.means self.old.builder self.new.builder tables.old tables.new (add_call (var_means E.means a) (var_means E.means b)) (outcome (λ v. Some (var_means E.means v)) result) }
     {
-        self.call(tables, Request::Add(a, b), E::zero())
+        self.make(tables, Request::Add(a, b))
     }
 
     pub fn multiply<E: Ring, T>(
@@ -74,7 +90,7 @@ impl<R> Open<R> {
         R: Role<E, T>,
         ensures { R.Does E.Member E.algebra E.means self.old.builder self.new.builder tables.old tables.new (multiply_call (var_means E.means a) (var_means E.means b)) (outcome (λ v. Some (var_means E.means v)) result) }
     {
-        self.call(tables, Request::Multiply(a, b), E::zero())
+        self.make(tables, Request::Multiply(a, b))
     }
 
     pub fn negate<E: Ring, T>(&mut self, tables: &mut T, a: Var<E>) -> Result<Var<E>, Refusal>
@@ -82,7 +98,7 @@ impl<R> Open<R> {
         R: Role<E, T>,
         ensures { R.Does E.Member E.algebra E.means self.old.builder self.new.builder tables.old tables.new (negate_call (var_means E.means a)) (outcome (λ v. Some (var_means E.means v)) result) }
     {
-        self.call(tables, Request::Negate(a), E::zero())
+        self.make(tables, Request::Negate(a))
     }
 
     pub fn subtract<E: Ring, T>(
@@ -95,7 +111,7 @@ impl<R> Open<R> {
         R: Role<E, T>,
         ensures { R.Does E.Member E.algebra E.means self.old.builder self.new.builder tables.old tables.new (subtract_call (var_means E.means a) (var_means E.means b)) (outcome (λ v. Some (var_means E.means v)) result) }
     {
-        self.call(tables, Request::Subtract(a, b), E::zero())
+        self.make(tables, Request::Subtract(a, b))
     }
 
     pub fn assert_equal<E: Ring, T>(
@@ -108,7 +124,7 @@ impl<R> Open<R> {
         R: Role<E, T>,
         ensures { Compared (Settled (var_means E.means a) (var_means E.means b)) (λ d. R.Does E.Member E.algebra E.means self.old.builder self.new.builder tables.old tables.new (assert_call (var_means E.means a) (var_means E.means b) d) (outcome (λ _. None) result)) }
     {
-        self.call(tables, Request::AssertEqual(a, b), E::zero())?;
+        self.make(tables, Request::AssertEqual(a, b))?;
         Ok(())
     }
 }

@@ -20,7 +20,9 @@ mod writing;
 
 pub use admission::has;
 pub use boolean::bit;
+pub use calls::are_short;
 pub use roles::Role;
+pub use writing::entry;
 
 // How much of its tables a worksheet has filled. The caller lends them at each call, so the counts stand apart.
 #[derive(Drop)]
@@ -84,16 +86,6 @@ pub enum Request<E> {
     Select(Var<E>, Var<E>, Var<E>),
 }
 
-// A builder call that answers a variable that is zero or one.
-#[derive(Clone, Copy)]
-pub enum BoolRequest<E> {
-    Witness,
-    Assert(Var<E>),
-    Not(BoolVar<E>),
-    And(BoolVar<E>, BoolVar<E>),
-    Or(BoolVar<E>, BoolVar<E>),
-}
-
 // What is done to two elements, and which node two ids make.
 #[derive(Clone, Copy)]
 enum Op {
@@ -101,7 +93,8 @@ enum Op {
     Multiply,
 }
 
-// The tables and the counts of a worksheet while a call writes them.
+// The tables and the counts of a worksheet while a call writes them. How much room a call needs, and which ids it
+// reads, goes by the call, so both are asked of each function and none is a fact of the type.
 #[derive(Drop)]
 struct Draft<'a, E> {
     constants: &'a mut [E],

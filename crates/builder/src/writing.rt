@@ -30,12 +30,15 @@ fn node_of(op: Op, a: CircuitIdx, b: CircuitIdx) -> CircuitNode
     }
 }
 
-// An entry of a table whose first n are in use.
-fn entry<E: Ring>(table: &[E], n: u32, k: u32) -> E
-    requires { (n ≤ length table.now) × (k < n) }
+// An entry of a table whose first n are in use, or zero.
+pub fn entry<E: Ring>(table: &[E], n: u32, k: u32) -> E
     ensures { E.means result ≡ slice_index_or (map E.means (take n table.now)) k E.algebra.nought }
 {
-    table[k as usize]
+    if k < n && (k as usize) < table.len() {
+        table[k as usize]
+    } else {
+        E::zero()
+    }
 }
 
 impl<'a, E: Ring> Draft<'a, E> {

@@ -12,9 +12,10 @@ mod working;
 pub use witnesses::Witnesses;
 
 // The role of one who knows the witnesses' values.
-pub struct Prover;
+pub struct Prover(());
 
-// The tables of a prover's worksheet: `values` has an entry for each witness, `worked` one for each node.
+// The tables of a prover's worksheet, each the caller's: `values` has an entry for each witness, `worked` one for each
+// node, since the two are appended apart.
 #[derive(Drop)]
 pub struct Ledger<'a, E> {
     pub tables: Tables<'a, E>,
@@ -22,7 +23,8 @@ pub struct Ledger<'a, E> {
     pub worked: &'a mut [E],
 }
 
-// The values of a worksheet's ids, read from its tables.
+// The values of a worksheet's ids, read from its tables up to the counts. The tables are whole, as they were handed
+// over, so the counts stand beside them.
 #[derive(Clone, Copy)]
 pub struct Values<'a, E> {
     counts: Counts,

@@ -10,8 +10,9 @@ ghost use Rattle.builder.specs.Admission.{known_id};
 ghost use Rattle.builder.specs.Requests.{worth};
 ghost use Rattle.prover.specs.Book.{book, short, sheet_of, worksheet_in, read};
 
+use super::working::lack;
 use super::{Prover, Values};
-use builder::{Sealed, has};
+use builder::{Sealed, are_short, entry, has};
 use refusal::Refusal;
 use ring::Ring;
 use worksheet::{CircuitIdx, CircuitNode, Var};
@@ -30,12 +31,7 @@ impl<'a, E: Ring> Values<'a, E> {
         ensures { MatchResult result (λ v. (short sealed.now.builder.capacity (book constants.now nodes.now assertions.now values.now worked.now) ≡ false) × (v.counts ≡ sealed.now.builder.counts) × (v.constants.now ≡ constants.now) × (v.assertions.now ≡ assertions.now) × (v.values.now ≡ values.now) × (v.worked.now ≡ worked.now)) (λ e. (number_of e ≡ 2) × (short sealed.now.builder.capacity (book constants.now nodes.now assertions.now values.now worked.now) ≡ true)) }
     {
         let capacity = sealed.capacity();
-        if values.len() < capacity.witnesses as usize
-            || worked.len() < capacity.nodes as usize
-            || constants.len() < capacity.constants as usize
-            || nodes.len() < capacity.nodes as usize
-            || assertions.len() < capacity.assertions as usize
-        {
+        if lack(capacity, values, worked) || are_short(capacity, constants, nodes, assertions) {
             return Err(Refusal::ShortTable);
         }
         Ok(Values {
@@ -100,16 +96,5 @@ impl<'a, E: Ring> Values<'a, E> {
             CircuitNode::Add(a, b) => self.value_of(a).add(self.value_of(b)),
             CircuitNode::Mul(a, b) => self.value_of(a).multiply(self.value_of(b)),
         }
-    }
-}
-
-// An entry of a table whose first n are in use, or zero.
-fn entry<E: Ring>(table: &[E], n: u32, k: u32) -> E
-    ensures { E.means result ≡ slice_index_or (map E.means (take n table.now)) k E.algebra.nought }
-{
-    if k < n && (k as usize) < table.len() {
-        table[k as usize]
-    } else {
-        E::zero()
     }
 }

@@ -8,7 +8,7 @@ ghost use Rattle.builder.specs.declared.Builder.{Builder};
 ghost use Rattle.prover.specs.Called.{Made};
 
 use super::{Ledger, Prover};
-use builder::{BoolRequest, BoolVar, Open, Request, bit};
+use builder::{BoolVar, Open, Request, bit};
 use refusal::Refusal;
 use ring::{Field, Ring};
 use worksheet::Var;
@@ -50,7 +50,7 @@ impl Witnesses for Open<Prover> {
         ledger: &mut Ledger<'_, E>,
         value: E,
     ) -> Result<Var<E>, Refusal> {
-        self.call(ledger, Request::Witness, value)
+        self.call(&Prover(()), ledger, Request::Witness, value)
     }
 
     fn boolean_witness<E: Ring>(
@@ -58,7 +58,7 @@ impl Witnesses for Open<Prover> {
         ledger: &mut Ledger<'_, E>,
         value: bool,
     ) -> Result<BoolVar<E>, Refusal> {
-        self.boolean(ledger, BoolRequest::Witness, bit(value))
+        self.bit_witness(&Prover(()), ledger, bit(value))
     }
 
     fn divide<E: Field>(
@@ -72,13 +72,23 @@ impl Witnesses for Open<Prover> {
         match (a, b) {
             (Var::Native(_), Var::Native(_)) => self.answer(ledger, quotient),
             (Var::Native(x), Var::Circuit(j)) => {
-                self.call(ledger, Request::DivideBy(Var::Native(x), j), quotient)
+                self.call(
+                    &Prover(()),
+                    ledger,
+                    Request::DivideBy(Var::Native(x), j),
+                    quotient,
+                )
             }
             (Var::Circuit(i), Var::Native(y)) => {
-                self.call(ledger, Request::DivideId(i, y), quotient)
+                self.call(&Prover(()), ledger, Request::DivideId(i, y), quotient)
             }
             (Var::Circuit(i), Var::Circuit(j)) => {
-                self.call(ledger, Request::DivideBy(Var::Circuit(i), j), quotient)
+                self.call(
+                    &Prover(()),
+                    ledger,
+                    Request::DivideBy(Var::Circuit(i), j),
+                    quotient,
+                )
             }
         }
     }
@@ -91,7 +101,7 @@ impl Witnesses for Open<Prover> {
         let inverse = ledger.view(self.counts()).worth(a).inverse();
         match a {
             Var::Native(_) => self.answer(ledger, inverse),
-            Var::Circuit(i) => self.call(ledger, Request::Invert(i), inverse),
+            Var::Circuit(i) => self.call(&Prover(()), ledger, Request::Invert(i), inverse),
         }
     }
 }

@@ -1,5 +1,5 @@
 // The values of new witnesses and nodes.
-ghost use Rattle.std.specs.Prelude.{◌≡◌, ◌<◌, ◌≤◌, map, length, take, drop, if◌then◌else◌, nat_lt, slice_set};
+ghost use Rattle.std.specs.Prelude.{◌≡◌, ◌<◌, ◌≤◌, map, length, take, drop, if◌then◌else◌, ◌||◌, nat_lt, slice_set};
 ghost use Rattle.worksheet.specs.Runs.{work_out};
 ghost use Rattle.prover.specs.Book.{held, lacks, of_constants};
 ghost use Rattle.prover.specs.Filled.{Filled};
@@ -8,13 +8,18 @@ use super::{Ledger, Values};
 use ring::Ring;
 use worksheet::Counts;
 
+// Whether a table of values is shorter than its capacity.
+pub fn lack<E>(capacity: Counts, values: &[E], worked: &[E]) -> bool
+    ensures { result ≡ (nat_lt (length values.now) capacity.witnesses || nat_lt (length worked.now) capacity.nodes) }
+{
+    values.len() < capacity.witnesses as usize || worked.len() < capacity.nodes as usize
+}
+
 impl<'a, E> Ledger<'a, E> {
-    // Whether a table of values is shorter than its capacity.
     pub(super) fn lacks(&self, capacity: Counts) -> bool
         ensures { result ≡ lacks capacity (held self.now) }
     {
-        self.values.len() < capacity.witnesses as usize
-            || self.worked.len() < capacity.nodes as usize
+        lack(capacity, self.values, self.worked)
     }
 
     // The values of the ids below these counts.

@@ -7,4 +7,4 @@ mod witnesses;
 pub use witnesses::Witnesses;
 
 // The role of one who holds no values.
-pub struct Verifier;
+pub struct Verifier(());

@@ -9,7 +9,7 @@ ghost use Rattle.builder.specs.Called.{Made};
 ghost use Rattle.verifier.specs.Quotients.{Divided, Inverted};
 
 use super::Verifier;
-use builder::{BoolRequest, BoolVar, Open, Request, Tables};
+use builder::{BoolVar, Open, Request, Tables};
 use refusal::Refusal;
 use ring::{Field, Ring};
 use worksheet::Var;
@@ -44,14 +44,14 @@ impl Witnesses for Open<Verifier> {
     ghost builder = { λ o. o.builder };
 
     fn witness<E: Ring>(&mut self, tables: &mut Tables<'_, E>) -> Result<Var<E>, Refusal> {
-        self.call(tables, Request::Witness, E::zero())
+        self.call(&Verifier(()), tables, Request::Witness, E::zero())
     }
 
     fn boolean_witness<E: Ring>(
         &mut self,
         tables: &mut Tables<'_, E>,
     ) -> Result<BoolVar<E>, Refusal> {
-        self.boolean(tables, BoolRequest::Witness, E::zero())
+        self.bit_witness(&Verifier(()), tables, E::zero())
     }
 
     fn divide<E: Field>(
@@ -63,13 +63,23 @@ impl Witnesses for Open<Verifier> {
         match (a, b) {
             (Var::Native(x), Var::Native(y)) => self.answer(tables, x.multiply(y.inverse())),
             (Var::Native(x), Var::Circuit(j)) => {
-                self.call(tables, Request::DivideBy(Var::Native(x), j), E::zero())
+                self.call(
+                    &Verifier(()),
+                    tables,
+                    Request::DivideBy(Var::Native(x), j),
+                    E::zero(),
+                )
             }
             (Var::Circuit(i), Var::Native(y)) => {
-                self.call(tables, Request::DivideId(i, y), E::zero())
+                self.call(&Verifier(()), tables, Request::DivideId(i, y), E::zero())
             }
             (Var::Circuit(i), Var::Circuit(j)) => {
-                self.call(tables, Request::DivideBy(Var::Circuit(i), j), E::zero())
+                self.call(
+                    &Verifier(()),
+                    tables,
+                    Request::DivideBy(Var::Circuit(i), j),
+                    E::zero(),
+                )
             }
         }
     }
@@ -81,7 +91,7 @@ impl Witnesses for Open<Verifier> {
     ) -> Result<Var<E>, Refusal> {
         match a {
             Var::Native(x) => self.answer(tables, x.inverse()),
-            Var::Circuit(i) => self.call(tables, Request::Invert(i), E::zero()),
+            Var::Circuit(i) => self.call(&Verifier(()), tables, Request::Invert(i), E::zero()),
         }
     }
 }

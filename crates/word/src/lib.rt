@@ -13,7 +13,7 @@ pub struct Word {
 }
 
 impl Word {
-    // Named as the other rings' elements are made.
+    // `new`, as a public call by this name; a `From` would be its second name.
     pub fn new(value: u64) -> Word
         ensures { result.value ≡ value }
     {
