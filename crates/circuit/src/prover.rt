@@ -5,7 +5,6 @@ ghost use Rattle.matrix.specs.Table.{matrix};
 ghost use Rattle.circuit.specs.Bulletproofs.{Holds, hadamard};
 ghost use Rattle.circuit.specs.Verdict.{Satisfied, system_of};
 
-use super::rows::products_hold;
 use super::{Circuit, Columns, Witness};
 use matrix::SparseMatrix;
 use refusal::Refusal;
@@ -52,7 +51,6 @@ impl<'a, E: Ring> Witness<'a, E> {
         ensures verdict { Decides result (Satisfied E.algebra (matrix E.means weights.now) committed gates (map E.means self.now.columns.values.now) (map E.means self.now.columns.left.now) (map E.means self.now.columns.right.now) × (hadamard E.algebra (map E.means self.now.columns.left.now) (map E.means self.now.columns.right.now) ≡ map E.means self.now.out.now)) }
         ensures paper { Decides result ((weights.now.width ≤ 1 + committed + 3 * gates) × Holds E.algebra (system_of E.algebra (matrix E.means weights.now) committed gates) (map E.means self.now.columns.values.now) (map E.means self.now.columns.left.now) (map E.means self.now.columns.right.now) (map E.means self.now.out.now)) }
     {
-        Circuit::is_satisfied(weights, committed, gates, &self.columns)
-            && products_hold(self.columns.left, self.columns.right, self.out)
+        Circuit::is_satisfied(weights, committed, gates, &self.columns) && self.products_hold()
     }
 }

@@ -1,11 +1,12 @@
 // The rows' sums over columns that are not written out.
 ghost use Rattle.std.specs.Prelude.{◌≡◌, ℕ, true, map, length, Decides};
-ghost use Rattle.matrix.specs.Cells.{in_order, meant, entry, row_sum};
+ghost use Rattle.matrix.specs.Cells.{entry, row_sum};
+ghost use Rattle.matrix.specs.Table.{matrix};
 ghost use Rattle.circuit.specs.Bulletproofs.{hadamard};
 ghost use Rattle.circuit.specs.Verdict.{filled};
 
-use super::Columns;
-use matrix::Cell;
+use super::{Columns, Witness};
+use matrix::SparseMatrix;
 use ring::Ring;
 
 impl<'a, E: Ring> Columns<'a, E> {
@@ -41,14 +42,13 @@ impl<'a, E: Ring> Columns<'a, E> {
     }
 
     // Whether every row's sum is zero, in one pass over cells in order.
-    pub(super) fn rows_vanish(&self, cells: &[Cell<E>]) -> bool
-        requires { in_order cells.now ≡ true }
-        ensures { Decides result ((i : ℕ) → row_sum E.algebra (filled E.algebra (map E.means self.now.values.now) (map E.means self.now.left.now) (map E.means self.now.right.now)) i (meant E.means cells.now) ≡ E.algebra.nought) }
+    pub(super) fn rows_vanish(&self, weights: &SparseMatrix<'_, E>) -> bool
+        ensures { Decides result ((i : ℕ) → row_sum E.algebra (filled E.algebra (map E.means self.now.values.now) (map E.means self.now.left.now) (map E.means self.now.right.now)) i (matrix E.means weights.now).cells ≡ E.algebra.nought) }
     {
         let zero = E::zero();
         let mut sum = zero;
         let mut row = 0;
-        for cell in cells {
+        for cell in weights.cells() {
             if cell.row != row {
                 if !sum.equal(zero) {
                     return false;
@@ -63,14 +63,16 @@ impl<'a, E: Ring> Columns<'a, E> {
     }
 }
 
-// Whether each out is its left times its right.
-pub fn products_hold<E: Ring>(left: &[E], right: &[E], out: &[E]) -> bool
-    requires paired { length left.now ≡ length right.now }
-    requires gated { length left.now ≡ length out.now }
-    ensures { Decides result (hadamard E.algebra (map E.means left.now) (map E.means right.now) ≡ map E.means out.now) }
-{
-    left.iter()
-        .zip(right)
-        .zip(out)
-        .all(|((&left, &right), &out)| out.equal(left.multiply(right)))
+impl<'a, E: Ring> Witness<'a, E> {
+    // Whether each out is its left times its right.
+    pub(super) fn products_hold(&self) -> bool
+        ensures { Decides result (hadamard E.algebra (map E.means self.now.columns.left.now) (map E.means self.now.columns.right.now) ≡ map E.means self.now.out.now) }
+    {
+        self.columns
+            .left
+            .iter()
+            .zip(self.columns.right)
+            .zip(self.out)
+            .all(|((&left, &right), &out)| out.equal(left.multiply(right)))
+    }
 }

@@ -35,7 +35,7 @@ impl Circuit {
             && columns.left.len() == gates
             && columns.right.len() == gates
             && fits(weights.width(), committed, gates)
-            && columns.rows_vanish(weights.cells())
+            && columns.rows_vanish(weights)
     }
 }
 

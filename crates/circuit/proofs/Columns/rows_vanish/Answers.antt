@@ -1,8 +1,10 @@
-use Rattle.std.proofs.Common.{◌≡◌, map, sym, ap, ◌∙◌, arith}
+use Rattle.std.proofs.Common.{◌≡◌, map, take, length, sym, ap, ◌∙◌, arith}
 use Rattle.std.proofs.lemmas.Bool.{both_ways, false≢true}
 use Rattle.matrix.specs.declared.Cell.{Cell}
-use Rattle.matrix.specs.Cells.{cell, meant, entry}
-use Rattle.matrix.proofs.Order.{order_holds, order_meant}
+use Rattle.matrix.specs.Cells.{cell, entry}
+use Rattle.matrix.specs.Table.{matrix}
+use Rattle.matrix.proofs.Order.{order_holds}
+use Rattle.matrix.proofs.Held.{ordered_cells}
 use Rattle.circuit.specs.Verdict.{filled}
 use Rattle.circuit.proofs.Running.{start, same_row, new_row, fails, cell_at}
 use Rattle.circuit.proofs.Columns.rows_vanish.Goals as goal
@@ -17,11 +19,11 @@ loop-cell-preserved g c =
     let a = c.args in
     let A = m.algebra in
     let list = filled A (map m.means a.self.now.values.now) (map m.means a.self.now.left.now) (map m.means a.self.now.right.now) in
-    let xs = meant m.means a.cells.now in
-    let order = order_holds (meant m.means a.cells.now) (order_meant m.means a.cells.now ∙ c.requires) in
+    let xs = (matrix m.means a.weights.now).cells in
+    let order = order_holds xs (ordered_cells m.means a.weights.now) in
     let x = c.cell-item.result in
     let e : Cell m.Member = cell x.row x.column (m.means x.weight) in
-    let at = cell_at m.means a.cells.now c.loop-cell.cell-index x (omega arith) c.cell-item.is in
+    let at = cell_at m.means (take a.weights.now.count a.weights.now.cells.now) c.loop-cell.cell-index x (omega (arith, ap length c.cells-cell-items.ensures)) cc in
     let term = A.times (m.means x.weight) (entry A list x.column) in
     let added : m.means c.add-sum.result ≡ A.plus (m.means c.if-cell-row.sum) term =
     c.add-sum.ensures ∙ ap (A.plus (m.means c.if-cell-row.sum)) (c.multiply.ensures ∙ ap (A.times (m.means x.weight)) c.entry-x.ensures) in
@@ -39,9 +41,10 @@ returns-then-not-equal g c =
     let a = c.args in
     let A = m.algebra in
     let list = filled A (map m.means a.self.now.values.now) (map m.means a.self.now.left.now) (map m.means a.self.now.right.now) in
-    let order = order_holds (meant m.means a.cells.now) (order_meant m.means a.cells.now ∙ c.requires) in
+    let xs = (matrix m.means a.weights.now).cells in
+    let order = order_holds xs (ordered_cells m.means a.weights.now) in
     let x = c.cell-item.result in
-    let at = cell_at m.means a.cells.now c.loop-cell.cell-index x (omega arith) c.cell-item.is in (
+    let at = cell_at m.means (take a.weights.now.count a.weights.now.cells.now) c.loop-cell.cell-index x (omega (arith, ap length c.cells-cell-items.ensures)) cc in (
       λ no'. absurd (false≢true no'),
       λ all. absurd (fails A list _ order c.loop-cell.cell-index c.loop-cell.row _ c.loop-cell.invariant (cell x.row x.column (m.means x.weight)) at.0 at.1 c.if-cell-row.true
           (λ none. both_ways _ c.if-not-equal.true (c.equal.ensures.no (none ∙ sym c.zero-zero.ensures))) all),
