@@ -11,6 +11,7 @@ pub fn show_new(
     was: Counts,
     is: Counts,
 ) -> io::Result<()> {
+    // A verifier has no table of witnesses to go over.
     for w in was.witnesses..is.witnesses {
         println!(rt; "  witness {w}")?;
     }
