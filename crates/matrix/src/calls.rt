@@ -8,7 +8,6 @@ ghost use Rattle.matrix.specs.Matrix.{empty, padded, added, assigned, limit};
 ghost use Rattle.matrix.specs.Places.{Place};
 ghost use Rattle.matrix.specs.Table.{matrix, room, Blank, Unchanged};
 
-use super::sums::accumulate;
 use super::table::write;
 use super::{Cell, SparseMatrix};
 use refusal::Refusal;
@@ -17,6 +16,8 @@ use ring::Ring;
 // No row or column index reaches it, and no size is above it.
 const LIMIT: u32 = 1_048_576;
 
+// Each clause says one fact of a call, before and after it; a view as a definition (`impl Model`)
+// would hide the table past the count and its memory.
 impl<'a, E: Ring> SparseMatrix<'a, E> {
     // A matrix without cells, over a table that is made blank.
     pub fn new(cells: &'a mut [Cell<E>]) -> SparseMatrix<'a, E>
@@ -96,7 +97,7 @@ impl<'a, E: Ring> SparseMatrix<'a, E> {
         if res.len() != self.height as usize {
             return Err(Refusal::Length);
         }
-        accumulate(self.cells(), list, res);
+        self.accumulate(list, res);
         Ok(())
     }
 

@@ -1,21 +1,24 @@
 // The sums of rows.
-ghost use Rattle.std.specs.Prelude.{◌≡◌, ℕ, true, map, length};
-ghost use Rattle.matrix.specs.Cells.{covers, meant, product};
+ghost use Rattle.std.specs.Prelude.{◌≡◌, map, length};
+ghost use Rattle.matrix.specs.Cells.{product};
+ghost use Rattle.matrix.specs.Table.{matrix};
 
-use super::Cell;
+use super::SparseMatrix;
 use ring::Ring;
 
-// Writes the sum of each row of the cells: weight times the list's entry at the column.
-#[tactic(auto, using(crate::proofs::RowSums::row_within))]
-pub fn accumulate<E: Ring>(cells: &[Cell<E>], list: &[E], res: &mut [E])
-    requires { (w : ℕ) × (covers (length res.old) w cells.now ≡ true) }
-    ensures { map E.means res.new ≡ product E.algebra (map E.means list.now) (length res.new) (meant E.means cells.now) }
-{
-    res.fill_with(|| E::zero());
-    for cell in cells {
-        if let Some(&value) = list.get(cell.column as usize) {
-            let sum = &mut res[cell.row as usize];
-            *sum = sum.add(cell.weight.multiply(value));
+impl<'a, E: Ring> SparseMatrix<'a, E> {
+    // Writes the sum of each row: weight times the list's entry at the column.
+    #[tactic(auto, using(crate::proofs::RowSums::row_within))]
+    pub(super) fn accumulate(&self, list: &[E], res: &mut [E])
+        requires { length res.old ≡ self.now.height }
+        ensures { map E.means res.new ≡ product E.algebra (map E.means list.now) self.now.height (matrix E.means self.now).cells }
+    {
+        res.fill_with(|| E::zero());
+        for cell in self.cells() {
+            if let Some(&value) = list.get(cell.column as usize) {
+                let sum = &mut res[cell.row as usize];
+                *sum = sum.add(cell.weight.multiply(value));
+            }
         }
     }
 }

@@ -1,6 +1,0 @@
-use Rattle.std.proofs.Common.{map}
-use Rattle.matrix.proofs.RowSums.{Summed}
-use Rattle.matrix.proofs.sums.accumulate.Given as goal
-
-abbrev pub invariant-loop-cell : goal.invariant-loop-cell
-invariant-loop-cell g l = let r = g.E.Ring in Summed r.algebra (map r.means l.list) r.means l.cells l.cell-index l.res
