@@ -5,6 +5,7 @@ ghost use Rattle.worksheet.specs.declared.Var.TheVariants.{Native};
 ghost use Rattle.worksheet.specs.Calls.{var_means};
 ghost use Rattle.worksheet.specs.Runs.{bit, assert_equal as assert_call, boolean_assert as boolean_assert_call, boolean_not as boolean_not_call, boolean_and as boolean_and_call, boolean_or as boolean_or_call, select as select_call, Settled, native_square};
 ghost use Rattle.builder.specs.declared.Request.TheVariants.{BooleanWitness};
+ghost use Rattle.builder.specs.Called.{Made};
 ghost use Rattle.builder.specs.Requests.{Of, OfStructure, Compared, shown};
 
 use super::{BoolVar, Open, Request, Role};
@@ -47,7 +48,7 @@ impl<R> Open<R> {
     where
         R: Role<E, T>,
         ensures called { Of E.algebra E.means (R.values E.Member E.algebra E.means self.old.builder tables.old) (R.Hands E.Member (E.means fresh)) BooleanWitness (λ c. R.Does E.Member E.algebra E.means self.old.builder self.new.builder tables.old tables.new c (outcome (λ v. Some (var_means E.means v.var)) result)) }
-        ensures shaped { OfStructure E.algebra E.means BooleanWitness (λ c. R.Shapes E.Member E.algebra E.means self.old.builder self.new.builder tables.old tables.new c (outcome (λ v. Some (var_means E.means v.var)) result)) }
+        ensures shaped { OfStructure E.algebra E.means BooleanWitness (λ c. Made E.algebra E.means (R.lacks self.old.builder.capacity tables.old) self.old.builder self.new.builder (R.structure tables.old) (R.structure tables.new) c (outcome (λ v. Some (var_means E.means v.var)) result)) }
         ensures stays { R.Stays self.old.builder self.new.builder tables.old tables.new }
         ensures written { R.Writes E.Member E.algebra E.means self.old.builder self.new.builder tables.old tables.new fresh (is_ok result) }
     {

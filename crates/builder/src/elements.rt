@@ -1,10 +1,11 @@
 // The builder calls on elements and ids, for every role.
-ghost use Rattle.std.specs.Prelude.{◌≡◌, if◌then◌else◌, Some, None, Ok, Err, is_ok};
+ghost use Rattle.std.specs.Prelude.{◌≡◌, if◌then◌else◌, ◌||◌, Some, None, Ok, Err, is_ok};
 ghost use Rattle.refusal.specs.declared.Refusal.TheVariants.{ShortTable};
 ghost use Rattle.refusal.specs.Outcome.{outcome};
 ghost use Rattle.worksheet.specs.declared.Var.TheVariants.{Native};
 ghost use Rattle.worksheet.specs.Calls.{var_means};
 ghost use Rattle.worksheet.specs.Runs.{constant as constant_call, add as add_call, multiply as multiply_call, negate as negate_call, subtract as subtract_call, assert_equal as assert_call, Settled};
+ghost use Rattle.builder.specs.Called.{short, Made};
 ghost use Rattle.builder.specs.Requests.{Of, OfStructure, Compared, shown};
 
 use super::{Open, Request, Role};
@@ -26,7 +27,7 @@ impl<R> Open<R> {
     where
         R: Role<E, T>,
         ensures called { Of E.algebra E.means (R.values E.Member E.algebra E.means self.old.builder tables.old) (R.Hands E.Member (E.means fresh)) request (λ c. R.Does E.Member E.algebra E.means self.old.builder self.new.builder tables.old tables.new c (outcome (λ v. shown E.algebra E.means request (var_means E.means v)) result)) }
-        ensures shaped { OfStructure E.algebra E.means request (λ c. R.Shapes E.Member E.algebra E.means self.old.builder self.new.builder tables.old tables.new c (outcome (λ v. shown E.algebra E.means request (var_means E.means v)) result)) }
+        ensures shaped { OfStructure E.algebra E.means request (λ c. Made E.algebra E.means (R.lacks self.old.builder.capacity tables.old) self.old.builder self.new.builder (R.structure tables.old) (R.structure tables.new) c (outcome (λ v. shown E.algebra E.means request (var_means E.means v)) result)) }
         ensures stays { R.Stays self.old.builder self.new.builder tables.old tables.new }
         ensures written { R.Writes E.Member E.algebra E.means self.old.builder self.new.builder tables.old tables.new fresh (is_ok result) }
     {
@@ -50,7 +51,7 @@ impl<R> Open<R> {
     pub fn answer<E: Ring, T>(&self, tables: &T, x: E) -> Result<Var<E>, Refusal>
     where
         R: Role<E, T>,
-        ensures { result ≡ (if R.short self.now.builder.capacity tables.now then Err ShortTable else Ok (Native x)) }
+        ensures { result ≡ (if R.lacks self.now.builder.capacity tables.now || short self.now.builder.capacity (R.structure tables.now).constants.now (R.structure tables.now).nodes.now (R.structure tables.now).assertions.now then Err ShortTable else Ok (Native x)) }
     {
         if R::is_short(self.builder.capacity(), tables) {
             Err(Refusal::ShortTable)

@@ -86,7 +86,7 @@ pub enum Request<E> {
     Select(Var<E>, Var<E>, Var<E>),
 }
 
-// What is done to two elements, and which node two ids make.
+// What is done to two elements, and which node two ids make: two things that go together, where a closure would be two.
 #[derive(Clone, Copy)]
 enum Op {
     Add,
@@ -94,7 +94,8 @@ enum Op {
 }
 
 // The tables and the counts of a worksheet while a call writes them. How much room a call needs, and which ids it
-// reads, goes by the call, so both are asked of each function and none is a fact of the type.
+// reads, goes by the call, so both are asked of each function and none is a fact of the type. The tables' three fields stand
+// in it, so that each clause names a table by one word.
 #[derive(Drop)]
 struct Draft<'a, E> {
     constants: &'a mut [E],

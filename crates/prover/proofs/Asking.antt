@@ -16,7 +16,7 @@ use Rattle.builder.specs.Called.{Stays as StructureStays, Made as Structured}
 use Rattle.builder.specs.Requests.{Of, OfStructure}
 use Rattle.prover.specs.declared.Ledger.{Ledger}
 use Rattle.prover.specs.Book.{book, held, lacks, worksheet_in}
-use Rattle.prover.specs.Called.{Shaped, Stays, Made}
+use Rattle.prover.specs.Called.{Stays, Made}
 use Rattle.prover.specs.Filled.{Filled}
 use Rattle.prover.proofs.Calling.{Handed, refused_so, accepted_so}
 
@@ -80,5 +80,5 @@ module _ {E M : Type 0} (R : RingOn M) (means : E → M) (was is : Builder) (t t
       let filled' = rw (is_b, is_a) at filled in
       accepted_then o vs ws (subst (λ (m : Tables E). Then m o) (sym same) (stays, filled', made))
 
-  pub shaped_request : (m : Tables E) (p : Reply M) → t'.tables ≡ m → OfStructure R means q (λ c. Structured R means lacking was is t.tables m c p) → OfStructure R means q (λ c. Shaped R means was is t t' c p)
+  pub shaped_request : (m : Tables E) (p : Reply M) → t'.tables ≡ m → OfStructure R means q (λ c. Structured R means lacking was is t.tables m c p) → OfStructure R means q (λ c. Structured R means (lacks was.capacity (held t)) was is t.tables t'.tables c p)
   shaped_request m p same made = rw (← is_lacking, same) made

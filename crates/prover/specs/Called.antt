@@ -4,11 +4,11 @@ use Rattle.refusal.specs.Outcome.{refused}
 use Rattle.ring.specs.Algebra.{RingOn}
 use Rattle.worksheet.specs.declared.Counts.{Counts}
 use Rattle.worksheet.specs.Law.{Stepped}
-use Rattle.worksheet.specs.Runs.{prover, verifier, Call, Reply}
+use Rattle.worksheet.specs.Runs.{prover, Call, Reply}
 use Rattle.builder.specs.declared.Builder.{Builder}
-use Rattle.builder.specs.Called.{Stays as StructureStays, Made as Structure}
+use Rattle.builder.specs.Called.{Stays as StructureStays}
 use Rattle.prover.specs.declared.Ledger.{Ledger}
-use Rattle.prover.specs.Book.{Book, book, held, lacks, short, worksheet_in}
+use Rattle.prover.specs.Book.{Book, book, held, short, worksheet_in}
 use Rattle.prover.specs.Filled.{Filled}
 
 -- counts and tables before and after a call, n and n', t and t'
@@ -37,11 +37,7 @@ pub record Made {E M : Type 0} (R : RingOn M) (means : E → M) (was is : Builde
   pub called : Called R means was.capacity was.counts is.counts (held t) (held t') c p
   pub stays : Stays was is t t'
 
--- what it does to the structure: what a verifier's call does, refused where a table of values is short
-abbrev pub Shaped : {E M : Type 0} (R : RingOn M) (means : E → M) (was is : Builder) (t t' : Ledger E) (c : Call R verifier) (p : Reply M) → Type 0
-Shaped R means was is t t' c p = Structure R means (lacks was.capacity (held t)) was is t.tables t'.tables c p
-
--- and to the values, where a new witness is handed x: the new entries' are filled in where it is accepted, and no other
+-- what it does to the values, where a new witness is handed x: the new entries' are filled in where it is accepted, and no other
 pub record Written {E M : Type 0} (R : RingOn M) (means : E → M) (was is : Builder) (t t' : Ledger E) (x : E) (ok : Bool) : Type 0 where
   pub filled : ok ≡ true → Filled R means was.counts is.counts x (book t'.tables.constants.now t'.tables.nodes.now t'.tables.assertions.now t.values.now t.worked.now) (held t')
   pub unwritten : ok ≡ false → (t'.values.now ≡ t.values.now) × (t'.worked.now ≡ t.worked.now)

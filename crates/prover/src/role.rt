@@ -1,8 +1,8 @@
 // A prover's role: what a call appends, it also works out.
 ghost use Rattle.std.specs.Prelude.{◌≡◌};
 ghost use Rattle.worksheet.specs.Runs.{values_of};
-ghost use Rattle.prover.specs.Book.{held, short, worksheet_in};
-ghost use Rattle.prover.specs.Called.{Shaped, Stays, Made, Written};
+ghost use Rattle.prover.specs.Book.{held, lacks, worksheet_in};
+ghost use Rattle.prover.specs.Called.{Stays, Made, Written};
 
 use super::{Ledger, Prover};
 use builder::{Builder, Request, Role};
@@ -11,15 +11,15 @@ use ring::Ring;
 use worksheet::{Counts, Var};
 
 impl<'a, E: Ring> Role<E, Ledger<'a, E>> for Prover {
-    ghost short = { λ cap t. short cap (held t) };
+    ghost structure = { λ t. t.tables };
+
+    ghost lacks = { λ cap t. lacks cap (held t) };
 
     ghost values = { λ M R means o t. values_of R (worksheet_in means o.counts (held t)) };
 
     ghost Hands = { λ M x y. x ≡ y };
 
     ghost Does = { λ M R means was is t t' c p. Made R means was is t t' c p };
-
-    ghost Shapes = { λ M R means was is t t' c p. Shaped R means was is t t' c p };
 
     ghost Stays = { λ was is t t'. Stays was is t t' };
 

@@ -50,7 +50,7 @@ fn hand<E: Copy>(values: &mut [E], before: u32, after: u32, fresh: E)
 }
 
 impl<'a, E: Ring> Ledger<'a, E> {
-    // Works out the values of the nodes from `first` on: by index, since each value is worked out from those before
+    // Works out the values of the nodes from `first` on, by counts that are the `Builder`'s: by index, since each value is worked out from those before
     // it in the table in which it is written.
     fn work_out(&mut self, counts: Counts, first: u32)
         requires { (first ≤ counts.nodes) × ((counts.nodes ≤ length self.old.tables.nodes.now) × (counts.nodes ≤ length self.old.worked.now)) }

@@ -1,7 +1,7 @@
 // A verifier's role: its tables hold the structure alone.
 ghost use Rattle.std.specs.Prelude.{false};
 ghost use Rattle.worksheet.specs.Runs.{erase};
-ghost use Rattle.builder.specs.Called.{short, Stays, Made};
+ghost use Rattle.builder.specs.Called.{Stays, Made};
 
 use super::Verifier;
 use builder::{Builder, Request, Role, Tables};
@@ -10,15 +10,15 @@ use ring::Ring;
 use worksheet::{Counts, Var};
 
 impl<'a, E: Ring> Role<E, Tables<'a, E>> for Verifier {
-    ghost short = { λ cap t. short cap t.constants.now t.nodes.now t.assertions.now };
+    ghost structure = { λ t. t };
+
+    ghost lacks = { λ cap t. false };
 
     ghost values = { λ M R means n t i. R.nought };
 
     ghost Hands = { λ M x y. Unit {0} };
 
     ghost Does = { λ M R means was is t t' c p. Made R means false was is t t' (erase c) p };
-
-    ghost Shapes = { λ M R means was is t t' c p. Made R means false was is t t' c p };
 
     ghost Stays = { λ was is t t'. Stays was is t t' };
 

@@ -25,7 +25,7 @@ mod tests {
         }
     }
 
-    // The number of a refusal, or 0.
+    // The number of a refusal, or 0; each crate of tests has its own, as they stand on no common one.
     fn number<T: Drop>(answer: Result<T, Refusal>) -> u8 {
         match answer {
             Ok(_) => 0,
