@@ -50,8 +50,8 @@ fn hand<E: Copy>(values: &mut [E], before: u32, after: u32, fresh: E)
 }
 
 impl<'a, E: Ring> Ledger<'a, E> {
-    // Works out the values of the nodes from `first` on, by counts that are the `Builder`'s: by index, since each value is worked out from those before
-    // it in the table in which it is written.
+    // Works out the values of the nodes from `first` on, by the counts that the `Builder` has: by index, since each
+    // value is worked out from those before it in the table in which it is written.
     fn work_out(&mut self, counts: Counts, first: u32)
         requires { (first ≤ counts.nodes) × ((counts.nodes ≤ length self.old.tables.nodes.now) × (counts.nodes ≤ length self.old.worked.now)) }
         ensures values { map E.means (take counts.nodes self.new.worked.now) ≡ work_out E.algebra (of_constants (map E.means (take counts.constants self.old.tables.constants.now))) (map E.means (take counts.witnesses self.old.values.now)) (map E.means (take first self.old.worked.now)) (drop first (take counts.nodes self.old.tables.nodes.now)) }
