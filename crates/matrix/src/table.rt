@@ -9,7 +9,7 @@ use ring::Ring;
 
 // Puts a cell at its place, and answers the new count. It takes a matrix's fields, which are no matrix's until
 // the count and the sizes follow.
-pub fn write<E: Ring>(
+pub(super) fn write<E: Ring>(
     cells: &mut [Cell<E>],
     count: usize,
     place: Result<usize, usize>,

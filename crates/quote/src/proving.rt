@@ -24,7 +24,7 @@ fn show_values(rt: &impl Print, values: Values<'_, Residue>, counts: Counts) -> 
     Ok(())
 }
 
-pub fn build(
+pub(super) fn build(
     rt: &impl Print,
     flows: [u32; 3],
     price: u32,

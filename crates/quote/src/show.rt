@@ -5,7 +5,7 @@ use std::io;
 use worksheet::Counts;
 
 // What stands in the tables past the counts `was`, up to the counts `is`.
-pub fn show_new(
+pub(super) fn show_new(
     rt: &impl Print,
     tables: &Tables<'_, Residue>,
     was: Counts,

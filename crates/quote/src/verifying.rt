@@ -21,7 +21,7 @@ fn add_flow(
     Ok(product)
 }
 
-pub fn build(rt: &impl Print, flows: [u32; 3], price: u32) -> anyhow::Result<()> {
+pub(super) fn build(rt: &impl Print, flows: [u32; 3], price: u32) -> anyhow::Result<()> {
     let zero = CircuitIdx::Constant(0);
     let mut tables = Tables {
         constants: &mut [Residue::zero(); 4],
