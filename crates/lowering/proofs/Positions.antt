@@ -1,6 +1,6 @@
 -- First positions in the committed list, and ids that are the same.
-use Rattle.std.proofs.Common.{◌≡◌, ℕ, suc, ◌+◌, ◌<◌, Bool, true, false, cond, List, [], ◌∷◌, length, Some, refl, ap, ◌∙◌, arith}
-use Rattle.std.proofs.lemmas.Bool.{eqb-true, eq-eqb}
+use Rattle.std.proofs.Common.{◌≡◌, ℕ, zero, suc, ◌+◌, ◌<◌, Bool, true, false, cond, List, [], ◌∷◌, length, Some, refl, ap, ◌∙◌, arith}
+use Rattle.std.proofs.lemmas.Bool.{eqb-true, eq-eqb, cond-true}
 use Rattle.worksheet.specs.declared.CircuitIdx.{CircuitIdx}
 use Rattle.worksheet.specs.declared.CircuitIdx.TheVariants.{Constant, Witness, Node}
 use Rattle.lowering.specs.Committed.{entry_at, same, first_from, first}
@@ -38,3 +38,13 @@ first_is C w i e =
     let l : r.0 < length C = r.2 in
     let t : i ≡ r.0 = r.1 ∙ omega arith in
     (omega arith, rw t r.3)
+
+-- a witness in the list has a first position
+pub has_first : (i : ℕ) (D : List CircuitIdx) (w m : ℕ) → m < length D → entry_at D m ≡ Witness w → (j : ℕ) × (first_from i D w ≡ Some j)
+has_first i [] w m h e = absurd (omega arith)
+has_first i (a ∷ D) w zero h e = (i, cond-true (same a (Witness w)) (Some i) (first_from (suc i) D w) (rw e (eq-eqb w w refl)))
+has_first i (a ∷ D) w (suc m) h e = go (same a (Witness w)) (has_first (suc i) D w m (omega arith) e)
+  where
+    go : (b : Bool) → (j : ℕ) × (first_from (suc i) D w ≡ Some j) → (j : ℕ) × (cond b (Some i) (first_from (suc i) D w) ≡ Some j)
+    go true r = (i, refl)
+    go false r = r
