@@ -1,5 +1,5 @@
 -- What holds of the verifier's call of a request holds of the prover's.
-use Rattle.std.proofs.Common.{◌≡◌, ℕ, Bool, Option, sym, refl, ap, ◌∙◌, subst, inl, inr, arith}
+use Rattle.std.proofs.Common.{◌≡◌, ℕ, Bool, length, Option, sym, refl, ap, ◌∙◌, subst, inl, inr, arith}
 use Rattle.refusal.specs.Outcome.{accepted, refused}
 use Rattle.ring.specs.Algebra.{RingOn}
 use Rattle.worksheet.specs.declared.CircuitIdx.{CircuitIdx}
@@ -63,22 +63,22 @@ module _ {E M : Type 0} (R : RingOn M) (means : E → M) (was is : Builder) (t t
   abbrev Then : Tables E → Option (Var M) → Type 0
   Then m o = StructureStays was is t.tables m × Filled R means was.counts is.counts x (book m.constants.now m.nodes.now m.assertions.now t.values.now t.worked.now) (held t') × OfStructure R means q (λ c. Structured R means lacking was is t.tables m c (accepted o))
 
-  accepted_then : (o : Option (Var M)) → t'.values.ghost_name ≡ t.values.ghost_name → t'.worked.ghost_name ≡ t.worked.ghost_name → Then t'.tables o → Of R means val (λ y. means x ≡ y) q (λ c. Made R means was is t t' c (accepted o))
-  accepted_then o vs ws h =
+  accepted_then : (o : Option (Var M)) → t'.values.ghost_name ≡ t.values.ghost_name → t'.worked.ghost_name ≡ t.worked.ghost_name → length t'.values.now ≡ length t.values.now → length t'.worked.now ≡ length t.worked.now → Then t'.tables o → Of R means val (λ y. means x ≡ y) q (λ c. Made R means was is t t' c (accepted o))
+  accepted_then o vs ws lv lw h =
       let below = was.below in
       let below' = is.below in
       let cap = ap (λ (k : Counts). k.witnesses) h.0.capacity in
       of_made R means val (means x) q (Written (accepted o)) h.2 (λ c. Made R means was is t t' c (accepted o)) (λ c so new. record {
         called = accepted_so R means was.capacity was.counts (held t) c is.counts t'.tables.constants.now t'.tables.nodes.now t'.tables.assertions.now (accepted o) (rw is_lacking at so.called) t'.values.now t'.worked.now x o refl (below.2, omega arith) new h.1;
-        stays = record { structure = h.0; lent_values = vs; lent_worked = ws };
+        stays = record { structure = h.0; lent_values = vs; lent_worked = ws; long_values = lv; long_worked = lw };
       })
 
   -- b and a are the counts as code has read them
-  pub accepted_request : (m : Tables E) (o : Option (Var M)) (b a : Counts) → t'.tables ≡ m → b ≡ was.counts → a ≡ is.counts → StructureStays was is t.tables m → t'.values.ghost_name ≡ t.values.ghost_name → t'.worked.ghost_name ≡ t.worked.ghost_name → Filled R means b a x (book m.constants.now m.nodes.now m.assertions.now t.values.now t.worked.now) (held t') → OfStructure R means q (λ c. Structured R means lacking was is t.tables m c (accepted o)) → Of R means val (λ y. means x ≡ y) q (λ c. Made R means was is t t' c (accepted o))
-  accepted_request m o b a same is_b is_a stays vs ws filled made =
+  pub accepted_request : (m : Tables E) (o : Option (Var M)) (b a : Counts) → t'.tables ≡ m → b ≡ was.counts → a ≡ is.counts → StructureStays was is t.tables m → t'.values.ghost_name ≡ t.values.ghost_name → t'.worked.ghost_name ≡ t.worked.ghost_name → length t'.values.now ≡ length t.values.now → length t'.worked.now ≡ length t.worked.now → Filled R means b a x (book m.constants.now m.nodes.now m.assertions.now t.values.now t.worked.now) (held t') → OfStructure R means q (λ c. Structured R means lacking was is t.tables m c (accepted o)) → Of R means val (λ y. means x ≡ y) q (λ c. Made R means was is t t' c (accepted o))
+  accepted_request m o b a same is_b is_a stays vs ws lv lw filled made =
       let old = book m.constants.now m.nodes.now m.assertions.now t.values.now t.worked.now in
       let filled' = rw (is_b, is_a) at filled in
-      accepted_then o vs ws (subst (λ (m : Tables E). Then m o) (sym same) (stays, filled', made))
+      accepted_then o vs ws lv lw (subst (λ (m : Tables E). Then m o) (sym same) (stays, filled', made))
 
   pub shaped_request : (m : Tables E) (p : Reply M) → t'.tables ≡ m → OfStructure R means q (λ c. Structured R means lacking was is t.tables m c p) → OfStructure R means q (λ c. Structured R means (lacks was.capacity (held t)) was is t.tables t'.tables c p)
   shaped_request m p same made = rw (← is_lacking, same) made

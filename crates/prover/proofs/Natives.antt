@@ -66,7 +66,7 @@ module _ {E M : Type 0} (R : RingOn M) (means : E → M) (o : Builder) (t : Ledg
             spare_values = refl;
             spare_worked = refl;
           };
-          stays = record { structure = unmoved o t.tables; lent_values = refl; lent_worked = refl };
+          stays = record { structure = unmoved o t.tables; lent_values = refl; lent_worked = refl; long_values = refl; long_worked = refl };
         }
 
     pub native_quotient : (x y : M) (F : FieldOf R) → means q ≡ R.times x (F.inverse y) → Made R means o o t t (divide F (Native x) (Native y)) (shown r)

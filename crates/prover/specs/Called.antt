@@ -1,5 +1,5 @@
 -- What a call on a prover's worksheet does: the step of its definition, in the tables that it is handed.
-use Rattle.std.specs.Prelude.{◌≡◌, ℕ, Bool, true, false, drop}
+use Rattle.std.specs.Prelude.{◌≡◌, ℕ, Bool, true, false, length, drop}
 use Rattle.refusal.specs.Outcome.{refused}
 use Rattle.ring.specs.Algebra.{RingOn}
 use Rattle.worksheet.specs.declared.Counts.{Counts}
@@ -26,11 +26,13 @@ pub record Called {E M : Type 0} (R : RingOn M) (means : E → M) (cap n n' : Co
   pub spare_values : drop n'.witnesses t'.values ≡ drop n'.witnesses t.values
   pub spare_worked : drop n'.nodes t'.worked ≡ drop n'.nodes t.worked
 
--- what every call keeps: what it keeps of the structure, and the memory of the values
+-- what every call keeps: what it keeps of the structure, and the values' memory, as long as it was
 pub record Stays {E : Type 0} (was is : Builder) (t t' : Ledger E) : Type 0 where
   pub structure : StructureStays was is t.tables t'.tables
   pub lent_values : t'.values.ghost_name ≡ t.values.ghost_name
   pub lent_worked : t'.worked.ghost_name ≡ t.worked.ghost_name
+  pub long_values : length t'.values.now ≡ length t.values.now
+  pub long_worked : length t'.worked.now ≡ length t.worked.now
 
 -- a call on a worksheet, at the capacity that it was opened with
 pub record Made {E M : Type 0} (R : RingOn M) (means : E → M) (was is : Builder) (t t' : Ledger E) (c : Call R prover) (p : Reply M) : Type 0 where

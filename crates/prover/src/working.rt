@@ -59,6 +59,7 @@ impl<'a, E: Ring> Ledger<'a, E> {
         ensures structure { self.new.tables ≡ self.old.tables }
         ensures handed { self.new.values ≡ self.old.values }
         ensures lent { self.new.worked.ghost_name ≡ self.old.worked.ghost_name }
+        ensures long { length self.new.worked.now ≡ length self.old.worked.now }
     {
         for k in first..counts.nodes {
             let so_far = Counts { nodes: k, ..counts };
@@ -75,6 +76,7 @@ impl<'a, E: Ring> Ledger<'a, E> {
         ensures filled { Filled E.algebra E.means before after fresh (held self.old) (held self.new) }
         ensures structure { self.new.tables ≡ self.old.tables }
         ensures lent { (self.new.values.ghost_name ≡ self.old.values.ghost_name) × (self.new.worked.ghost_name ≡ self.old.worked.ghost_name) }
+        ensures long { (length self.new.values.now ≡ length self.old.values.now) × (length self.new.worked.now ≡ length self.old.worked.now) }
     {
         hand(self.values, before.witnesses, after.witnesses, fresh);
         self.work_out(after, before.nodes);

@@ -225,6 +225,23 @@ mod tests {
         Ok(())
     }
 
+    // A call, refused or not, leaves the tables of values as long as they were, so that an index into them stays one.
+    #[test]
+    fn value_tables_keep_their_lengths(rt: HostRuntime) -> Result<(), Fail> {
+        let mut open = Open::<Prover>::new(counts(0, 1, 1, 0))?;
+        let (mut cs, mut ns, mut qs) = ([Residue::zero(); 0], [BLANK], [(C0, C0); 0]);
+        let (mut vs, mut ws) = ([Residue::zero()], [Residue::zero()]);
+        let mut lent = ledger(&mut cs, &mut ns, &mut qs, &mut vs, &mut ws);
+        assert!(rt; lent.values.len() > 0 && lent.worked.len() > 0);
+        let a = open.witness(&mut lent, Residue::new(5))?;
+        let _ = open.add(&mut lent, a, a)?;
+        assert_eq!(rt; (lent.values[0].value(), lent.worked[0].value()), (5, 10));
+        (lent.values[0], lent.worked[0]) = (Residue::new(6), Residue::new(12));
+        assert_eq!(rt; number(open.add(&mut lent, a, a)), 7);
+        assert_eq!(rt; (lent.values[0].value(), lent.worked[0].value()), (6, 12));
+        Ok(())
+    }
+
     // The verdict on 1 / x, and the value that was found.
     fn inverse_of(x: u32) -> Result<(bool, u16), Refusal> {
         let mut open = Open::<Prover>::new(counts(1, 2, 1, 1))?;

@@ -8,14 +8,14 @@ returns-in_err-answer-clause-called g c =
     let r = g.E.Ring in
     let a = c.args in
     let p = err_from_is_err_and c.from_residual.result c.from_residual.ensures.1 in
-    rw (p.1, p.2) (refused_request r.algebra r.means a.builder.now _ a.ledger.now _ a.fresh a.request.now c.capacity.ensures c.lacks-lacking.ensures _ refl refl (record { structure = c.in_err-answer.ensures.stays; lent_values = refl; lent_worked = refl }) c.in_err-answer.ensures.called)
+    rw (p.1, p.2) (refused_request r.algebra r.means a.builder.now _ a.ledger.now _ a.fresh a.request.now c.capacity.ensures c.lacks-lacking.ensures _ refl refl (record { structure = c.in_err-answer.ensures.stays; lent_values = refl; lent_worked = refl; long_values = refl; long_worked = refl }) c.in_err-answer.ensures.called)
 
 pub returns-clause-called : goal.returns-clause-called
 returns-clause-called g c =
     let r = g.E.Ring in
     let a = c.args in
     let made = c.in_ok-answer.ensures in
-    accepted_request r.algebra r.means a.builder.now _ a.ledger.now _ a.fresh a.request.now c.capacity.ensures c.lacks-lacking.ensures c.call.new.tables _ _ _ c.fill.ensures.structure c.counts-before.ensures c.counts-after.ensures made.stays c.fill.ensures.lent.0 c.fill.ensures.lent.1 c.fill.ensures.filled made.called
+    accepted_request r.algebra r.means a.builder.now _ a.ledger.now _ a.fresh a.request.now c.capacity.ensures c.lacks-lacking.ensures c.call.new.tables _ _ _ c.fill.ensures.structure c.counts-before.ensures c.counts-after.ensures made.stays c.fill.ensures.lent.0 c.fill.ensures.lent.1 c.fill.ensures.long.0 c.fill.ensures.long.1 c.fill.ensures.filled made.called
 
 pub returns-in_err-answer-clause-shaped : goal.returns-in_err-answer-clause-shaped
 returns-in_err-answer-clause-shaped g c =
