@@ -59,8 +59,10 @@ impl<'a, E: Ring> Values<'a, E> {
         ensures { (ns : List Node) → Decides result (Holds (sheet_of E.means self.now.counts (book self.now.constants.now ns self.now.assertions.now self.now.values.now self.now.worked.now)) (values_of E.algebra (worksheet_in E.means self.now.counts (book self.now.constants.now ns self.now.assertions.now self.now.values.now self.now.worked.now)))) }
     {
         let used = (self.counts.assertions as usize).min(self.assertions.len());
-        for pair in &self.assertions[..used] {
-            if !self.value_of(pair.0).equal(self.value_of(pair.1)) {
+        // A copy: behind the reference, its fields would be read from memory again for each id.
+        let view = *self;
+        for pair in &view.assertions[..used] {
+            if !view.value_of(pair.0).equal(view.value_of(pair.1)) {
                 return false;
             }
         }
