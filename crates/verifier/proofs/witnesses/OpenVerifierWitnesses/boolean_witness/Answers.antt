@@ -1,5 +1,6 @@
-use Rattle.std.proofs.Common.{false}
+use Rattle.std.proofs.Common.{rules}
+use Rattle.verifier.proofs.Handed.{any_element, any_bit}
 use Rattle.verifier.proofs.witnesses.OpenVerifierWitnesses.boolean_witness.Goals as goal
 
 pub returns : goal.returns
-returns g c = c.bit_witness.ensures.called false tt
+returns g c = search (rules, any_element, any_bit)
