@@ -68,10 +68,11 @@ impl<'a, E: Ring> SparseMatrix<'a, E> {
             return Err(Refusal::Beyond);
         }
         let place = self.find(row, column);
-        let sum = match place {
-            Ok(at) => self.cells[at].weight.add(weight),
-            Err(_) => weight,
+        let there = match place {
+            Ok(at) => self.cells[at].weight,
+            Err(_) => E::zero(),
         };
+        let sum = there.add(weight);
         self.put(place, row, column, sum)
     }
 

@@ -1,5 +1,4 @@
-use Rattle.std.proofs.Common.{◌≡◌, sym, ap, ◌∙◌}
-use Rattle.ring.proofs.Laws.{nought_plus}
+use Rattle.std.proofs.Common.{◌≡◌, ap, ◌∙◌}
 use Rattle.matrix.specs.Cells.{weight_at}
 use Rattle.matrix.specs.Table.{matrix, room}
 use Rattle.matrix.proofs.Held.{ordered_cells, weight_found, weight_absent}
@@ -15,12 +14,13 @@ returns g c =
     let m = a.self.now in
     let f = λ (u : r.Member). r.algebra.plus u (r.means a.weight) in
     let order = order_holds _ (ordered_cells r.means m) in
-    let sum : r.means c.match-place.sum ≡ f (weight_at r.algebra a.row a.column (matrix r.means m).cells) =
+    let there : r.means c.match-place.there ≡ weight_at r.algebra a.row a.column (matrix r.means m).cells =
     elim c.match-place.branch [
-      | in-Ok w ↦ ap r.means w.sum-is ∙ w.add-sum.ensures ∙ ap f (weight_found r.means m r.algebra a.row a.column w.in-Ok.at w.index-self-at.result w.in-Ok.ensures)
-      | in-Err w ↦ ap r.means w.sum-is ∙ sym (nought_plus r.algebra (r.means a.weight)) ∙ ap f (weight_absent r.means m r.algebra a.row a.column w.in-Err.field-0 a.weight w.in-Err.ensures)
+      | in-Ok w ↦ ap r.means w.there-is ∙ weight_found r.means m r.algebra a.row a.column w.in-Ok.at w.index-self-at.result w.in-Ok.ensures
+      | in-Err w ↦ ap r.means w.there-is ∙ w.zero-there.ensures ∙ weight_absent r.means m r.algebra a.row a.column w.in-Err.field-0 a.weight w.in-Err.ensures
     ] in
-    let is = c.put.ensures.answer ∙ touched_as r.algebra (room m) a.row a.column f (r.means c.match-place.sum) (matrix r.means m) order sum in
+    let sum = c.add-sum.ensures ∙ ap f there in
+    let is = c.put.ensures.answer ∙ touched_as r.algebra (room m) a.row a.column f (r.means c.add-sum.result) (matrix r.means m) order sum in
     record {
       answer = is;
       weights = weights_of r.algebra (room m) a.row a.column f (matrix r.means m) c.put.result (matrix r.means c.put.new.self) order is;
