@@ -26,11 +26,12 @@ impl<'a, E: Ring> SparseMatrix<'a, E> {
         ensures room { room result ≡ length cells.old }
         ensures lent { result.cells.ghost_name ≡ cells.entry.ghost_name }
     {
-        cells.fill_with(|| Cell {
+        let blank = Cell {
             row: 0,
             column: 0,
             weight: E::zero(),
-        });
+        };
+        cells.fill_with(|| blank);
         SparseMatrix {
             cells,
             count: 0,

@@ -13,7 +13,8 @@ impl<'a, E: Ring> SparseMatrix<'a, E> {
         requires { length res.old ≡ self.now.height }
         ensures { map E.means res.new ≡ product E.algebra (map E.means list.now) self.now.height (matrix E.means self.now).cells }
     {
-        res.fill_with(|| E::zero());
+        let zero = E::zero();
+        res.fill_with(|| zero);
         for cell in self.cells() {
             if let Some(&value) = list.get(cell.column as usize) {
                 let sum = &mut res[cell.row as usize];

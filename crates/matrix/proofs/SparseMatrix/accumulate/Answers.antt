@@ -9,7 +9,7 @@ use Rattle.matrix.proofs.SparseMatrix.accumulate.Goals as goal
 use Rattle.matrix.proofs.SparseMatrix.accumulate.Goals.{in-Some, in_default}
 
 pub loop-cell-init : goal.loop-cell-init
-loop-cell-init g c = let r = g.E.Ring in filled _ (λ x. r.means x ≡ r.algebra.nought) (λ p x q called. search rules) _ _ _ c.fill_with.ensures.ran.1
+loop-cell-init g c = let r = g.E.Ring in filled _ (λ x. r.means x ≡ r.algebra.nought) _ (λ x q called. search rules) _ _ c.fill_with.ensures.ran.1
 
 pub loop-cell-preserved : goal.loop-cell-preserved
 loop-cell-preserved g c =

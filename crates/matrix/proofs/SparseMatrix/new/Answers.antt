@@ -6,4 +6,4 @@ use Rattle.matrix.proofs.SparseMatrix.new.Goals as goal
 pub returns-clause-blank : goal.returns-clause-blank
 returns-clause-blank g c =
     let r = g.E.Ring in
-    filled _ (λ (x : Cell _). (x.row ≡ 0) × (x.column ≡ 0) × (r.means x.weight ≡ r.algebra.nought)) (λ p x q called. search rules) _ _ _ c.fill_with.ensures.ran.1
+    filled _ (λ (x : Cell _). (x.row ≡ 0) × (x.column ≡ 0) × (r.means x.weight ≡ r.algebra.nought)) _ (λ x q called. search rules) _ _ c.fill_with.ensures.ran.1
