@@ -1,14 +1,13 @@
 -- What the place of a row and a column among cells in order tells: whether the cell is there, its weight, and what a write there makes.
-use Rattle.std.proofs.Common.{◌≡◌, ℕ, zero, suc, ◌+◌, ◌<◌, ◌≤◌, max, Bool, true, false, List, [], ◌∷◌, length, get_or, set, Result, Ok, Err, Ordering, Less, Equal, Greater, nat_cmp, sym, refl, ap, ◌∙◌, arith}
-use Rattle.std.specs.List.{insert}
-use Rattle.std.specs.List.Sorted.{IsSearchInRange, IsBinarySearchResult, IsNonDecreasingBy}
-use Rattle.std.specs.Ordering.{ordering_index, ordering_then}
+use Rattle.std.proofs.Common.{◌≡◌, ℕ, zero, suc, ◌+◌, ◌<◌, ◌≤◌, max, Bool, true, false, ◌&&◌, ◌==◌, List, [], ◌∷◌, length, get_or, set, sym, refl, ap, ◌∙◌, arith}
+use Rattle.std.specs.List.{insert, HoldsAt}
+use Rattle.std.specs.List.Sorted.{IsPartitionedBy, IsPartitionPoint}
 use Rattle.std.proofs.lemmas.Bool.{cond-true, or_left}
 use Rattle.std.proofs.lemmas.Bool.Decides.{nat_tests}
 use Rattle.ring.specs.Algebra.{RingOn}
 use Rattle.matrix.specs.declared.Cell.{Cell}
 use Rattle.matrix.specs.Cells.{cell, meant, before, same_place, in_order, covers, present, weight_at, changed}
-use Rattle.matrix.specs.Places.{IsAt, IsGap, Place}
+use Rattle.matrix.specs.Places.{IsAt, IsGap}
 use Rattle.matrix.proofs.Order.{Later, AllLater, Ordered, later_apart, earlier_apart, order_holds, order_tested, order_meant, covers_meant}
 use Rattle.matrix.proofs.Changed.{ordered_changed, covers_changed}
 
@@ -22,48 +21,45 @@ pub cover_kept : {E M : Type 0} (R : RingOn M) (means : E → M) (r c h w g v : 
 cover_kept R means r c h w g v f cs ds s is tall wide =
     sym (covers_meant means g v ds) ∙ ap (covers g v) is ∙ rw (tall, wide) (covers_changed R r c f h w (meant means cs) (covers_meant means h w cs ∙ s))
 
+stops_at : (i j r c : ℕ) → same_place i j r c ≡ true → before i j r c ≡ false
+stops_at i j r c h = grind (arith, nat_tests)
+
+stops_before : (i j r c : ℕ) → Later r c i j → before i j r c ≡ false
+stops_before i j r c h = grind (arith, nat_tests)
+
 -- cells that come after a place do so one by one
 later_at : {E : Type 0} (i j : ℕ) (cs : List (Cell E)) (p : ℕ) (d : Cell E) → AllLater i j cs → p < length cs → Later i j (get_or cs p d).row (get_or cs p d).column
 later_at i j [] p d h lt = absurd (omega arith)
 later_at i j (x ∷ cs) zero d h lt = h.0
 later_at i j (x ∷ cs) (suc p) d h lt = later_at i j cs p d h.1 (omega arith)
 
--- a cell's row and column, as a pair, against row r and column c
-module _ (r c : ℕ) where
-  abbrev pub compared : {E : Type 0} → Cell E → Ordering
-  compared x = ordering_then (nat_cmp x.row r) (nat_cmp x.column c)
+-- nor does one come before those that stand before it
+not_back : {E : Type 0} (cs : List (Cell E)) → Ordered cs → (i j : ℕ) (d : Cell E) → i ≤ j → j < length cs → before (get_or cs j d).row (get_or cs j d).column (get_or cs i d).row (get_or cs i d).column ≡ false
+not_back [] order i j d le lt = absurd (omega arith)
+not_back (x ∷ cs) order zero zero d le lt = stops_at x.row x.column x.row x.column (grind (arith, nat_tests))
+not_back (x ∷ cs) order zero (suc j) d le lt = stops_before (get_or cs j d).row (get_or cs j d).column x.row x.column (later_at x.row x.column cs j d order.0 (omega arith))
+not_back (x ∷ cs) order (suc i) zero d le lt = absurd (omega arith)
+not_back (x ∷ cs) order (suc i) (suc j) d le lt = not_back cs order.1 i j d (omega arith) (omega arith)
 
-  later_ranks : (i j a b : ℕ) → Later i j a b → ordering_index (ordering_then (nat_cmp i r) (nat_cmp j c)) ≤ ordering_index (ordering_then (nat_cmp a r) (nat_cmp b c))
-  later_ranks i j a b h = grind (arith, nat_tests)
+before_too : (i j a b r c : ℕ) → before a b i j ≡ false → before a b r c ≡ true → before i j r c ≡ true
+before_too i j a b r c h k = grind (arith, nat_tests)
 
-  comparisons_rise : {E : Type 0} (cs : List (Cell E)) → Ordered cs → IsNonDecreasingBy (λ x. ordering_index (compared x)) cs
-  comparisons_rise [] order i j d le lt = absurd (omega arith)
-  comparisons_rise (x ∷ cs) order zero zero d le lt = omega arith
-  comparisons_rise (x ∷ cs) order zero (suc j) d le lt = later_ranks _ _ _ _ (later_at x.row x.column cs j d order.0 (omega arith))
-  comparisons_rise (x ∷ cs) order (suc i) zero d le lt = absurd (omega arith)
-  comparisons_rise (x ∷ cs) order (suc i) (suc j) d le lt = comparisons_rise cs order.1 i j d (omega arith) (omega arith)
+after_too : (i j a b r c : ℕ) → before a b i j ≡ false → before r c i j ≡ true → before r c a b ≡ true
+after_too i j a b r c h k = grind (arith, nat_tests)
 
-  same_if_equal : (i j : ℕ) → ordering_then (nat_cmp i r) (nat_cmp j c) ≡ Equal → same_place i j r c ≡ true
-  same_if_equal i j h = grind (arith, nat_tests)
+after_if_apart : (i j r c : ℕ) → before i j r c ≡ false → (i == r) && (j == c) ≡ false → before r c i j ≡ true
+after_if_apart i j r c h k = grind (arith, nat_tests)
 
-  before_if_less : (i j : ℕ) → ordering_then (nat_cmp i r) (nat_cmp j c) ≡ Less → before i j r c ≡ true
-  before_if_less i j h = grind (arith, nat_tests)
+module _ {E : Type 0} (r c : ℕ) (cs : List (Cell E)) (order : in_order cs ≡ true) where
+  parted : IsPartitionedBy (λ x. before x.row x.column r c) cs
+  parted i j d le lt h = before_too _ _ _ _ r c (not_back cs (order_holds cs order) i j d le lt) h
 
-  after_if_greater : (i j : ℕ) → ordering_then (nat_cmp i r) (nat_cmp j c) ≡ Greater → before r c i j ≡ true
-  after_if_greater i j h = grind (arith, nat_tests)
-
-  -- a binary search by row, then column, ends at the place
-  pub searched : {E : Type 0} (cs : List (Cell E)) → in_order cs ≡ true → (place : Result ℕ ℕ) → IsSearchInRange place (length cs) → IsBinarySearchResult compared cs place → Place cs r c place
-  searched cs order (Ok at) within equal = record { within = within; same = λ d. same_if_equal _ _ (equal d) }
-  searched cs order (Err at) within parts =
-      let both = parts (comparisons_rise cs (order_holds cs order)) in
-      record { within = within; parts = (λ k d le lt. before_if_less _ _ (both.0 k d le lt), λ k d le lt. after_if_greater _ _ (both.1 k d le lt)) }
-
-stops_at : (i j r c : ℕ) → same_place i j r c ≡ true → before i j r c ≡ false
-stops_at i j r c h = grind (arith, nat_tests)
-
-stops_before : (i j r c : ℕ) → Later r c i j → before i j r c ≡ false
-stops_before i j r c h = grind (arith, nat_tests)
+  -- where the cells before row r, column c end is a gap, unless the cell there is that of row r, column c
+  pub gap_at : (at : ℕ) → at ≤ length cs → (IsPartitionedBy (λ x. before x.row x.column r c) cs → IsPartitionPoint (λ x. before x.row x.column r c ≡ true) (λ x. before x.row x.column r c ≡ false) cs at) → (at < length cs → HoldsAt (λ x. (x.row == r) && (x.column == c) ≡ false) cs at) → IsGap cs r c at
+  gap_at at within ends apart =
+      let point = ends parted in
+      let after = λ (d : Cell E) (lt : at < length cs). after_if_apart _ _ r c (point.1 at d (omega arith) lt) (apart lt d) in
+      record { within = within; parts = (point.0, λ k d le lt. after_too _ _ _ _ r c (not_back cs (order_holds cs order) at k d le lt) (after d (omega arith))) }
 
 later_same : (i j a b r c : ℕ) → Later i j a b → same_place a b r c ≡ true → Later i j r c
 later_same i j a b r c h k = grind (arith, nat_tests)

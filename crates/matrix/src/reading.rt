@@ -31,8 +31,14 @@ impl<'a, E> SparseMatrix<'a, E> {
     pub(super) fn find(&self, row: u32, column: u32) -> Result<usize, usize>
         ensures { Place (take self.now.count self.now.cells.now) row column result }
     {
-        self.cells()
-            .binary_search_by_key(&(row, column), |cell| (cell.row, cell.column))
+        let cells = self.cells();
+        // By its parts: a pair's order takes a third more instructions.
+        let before = |cell: &Cell<E>| cell.row < row || cell.row == row && cell.column < column;
+        let at = cells.partition_point(before);
+        match cells.get(at) {
+            Some(cell) if (cell.row, cell.column) == (row, column) => Ok(at),
+            _ => Err(at),
+        }
     }
 }
 
