@@ -32,8 +32,7 @@ impl<'a, E> SparseMatrix<'a, E> {
         ensures { Place (take self.now.count self.now.cells.now) row column result }
     {
         let cells = self.cells();
-        // By its parts: a pair's order takes a third more instructions.
-        let before = |cell: &Cell<E>| cell.row < row || cell.row == row && cell.column < column;
+        let before = |cell: &Cell<E>| (cell.row, cell.column) < (row, column);
         let at = cells.partition_point(before);
         match cells.get(at) {
             Some(cell) if (cell.row, cell.column) == (row, column) => Ok(at),
