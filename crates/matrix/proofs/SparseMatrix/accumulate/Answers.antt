@@ -3,13 +3,13 @@ use Rattle.std.proofs.lemmas.Grind.{common_steps}
 use Rattle.std.proofs.lemmas.List.{length-map, get_or-map, get_or_default}
 use Rattle.matrix.specs.Cells.{entry, product}
 use Rattle.matrix.specs.Table.{matrix}
-use Rattle.matrix.proofs.Filled.{filled}
+use Rattle.matrix.proofs.Filled.{filled_alike}
 use Rattle.matrix.proofs.RowSums.{Summed, row_within, skipped, summed, all_summed}
 use Rattle.matrix.proofs.SparseMatrix.accumulate.Goals as goal
 use Rattle.matrix.proofs.SparseMatrix.accumulate.Goals.{in-Some, in_default}
 
 pub loop-cell-init : goal.loop-cell-init
-loop-cell-init g c = let r = g.E.Ring in filled _ (λ x. r.means x ≡ r.algebra.nought) _ (λ x q called. search rules) _ _ c.fill_with.ensures.ran.1
+loop-cell-init g c = let r = g.E.Ring in filled_alike _ (λ x. r.means x ≡ r.algebra.nought) _ (λ x q called. search rules) _ _ c.fill_with.ensures.ran.1
 
 pub loop-cell-preserved : goal.loop-cell-preserved
 loop-cell-preserved g c =
